@@ -1,0 +1,5 @@
+pub mod Orders
+pub mod Firsts
+pub mod Places
+pub mod Leads
+pub mod Children

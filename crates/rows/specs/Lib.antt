@@ -1,0 +1,4 @@
+pub mod Maps
+pub mod Rows
+pub mod Positions
+pub mod Sorts
