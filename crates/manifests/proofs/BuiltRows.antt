@@ -25,15 +25,15 @@ use Rattle.trees.specs.declared.entry.Entry.{Entry}
 use Rattle.trees.specs.declared.entry.Entry.the-variants.{File, Dir}
 use Rattle.trees.specs.Entries.{Row, is-dir, in-range, fine, closed}
 use Rattle.trees.proofs.Closed.{closed-head}
-use Rattle.manifests.specs.declared.fault.Cause.{Cause}
-use Rattle.manifests.specs.declared.fault.Cause.the-variants.{Header, Word, Value, Order, Parent, TooMany}
+use Rattle.mtree.specs.declared.fault.Cause.{Cause}
+use Rattle.mtree.specs.declared.fault.Cause.the-variants.{Header, Word, Value, Order, Parent, TooMany}
 use Rattle.manifests.specs.declared.fault.ManifestFault.{ManifestFault}
-use Rattle.manifests.specs.Steps.{andThen, andThenSome}
-use Rattle.manifests.specs.Escapes.{unescaped}
-use Rattle.manifests.specs.Words.{undotted, held, judged-word, path-of}
-use Rattle.manifests.specs.Numbers.{below, digit-value, numeral-from, numeral, mode-of, at-most, size-of, content-of}
-use Rattle.manifests.specs.Lexed.{tail}
-use Rattle.manifests.specs.Keywords.{type-name, mode-name, size-name, content-name, dir-word, file-word, expected, valued, number, no-more, dir-of, file-of, typed, entry-of}
+use Rattle.mtree.specs.Steps.{andThen, andThenSome}
+use Rattle.mtree.specs.Escapes.{unescaped}
+use Rattle.mtree.specs.Words.{undotted, held, judged-word, path-of}
+use Rattle.mtree.specs.Numbers.{below, digit-value, numeral-from, numeral, mode-of, at-most, size-of, content-of}
+use Rattle.mtree.specs.Lexed.{tail}
+use Rattle.mtree.specs.Keywords.{type-name, mode-name, size-name, content-name, dir-word, file-word, expected, valued, number, no-more, dir-of, file-of, typed, entry-of}
 use Rattle.manifests.specs.Lasts.{Built}
 use Rattle.manifests.specs.Manifests.{rises, sheltered, placed, row-of-line, fault-at, positioned, rows-from, header, indexed}
 use Rattle.manifests.proofs.Placing.{some-dir}

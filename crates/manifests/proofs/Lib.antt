@@ -1,6 +1,3 @@
-pub mod Machine
-pub mod Digits
-pub mod Dotting
 pub mod Undoing
 pub mod Dotted
 pub mod Numerals
@@ -13,7 +10,6 @@ pub mod ReadBack
 pub mod LastRow
 pub mod BuiltRows
 pub mod PlacedRow
-pub mod Deciding
 pub mod ReadLines
 pub mod SameRows
 pub mod Limits

@@ -15,11 +15,11 @@ use Rattle.paths.specs.Pieces.{front, later, pieces}
 use Rattle.rows.specs.Maps.{Names}
 use Rattle.trees.specs.declared.entry.Entry.{Entry}
 use Rattle.trees.specs.Entries.{Row}
-use Rattle.manifests.specs.declared.fault.Cause.the-variants.{Header, Word, Order, Parent, TooMany}
+use Rattle.mtree.specs.declared.fault.Cause.the-variants.{Header, Word, Order, Parent, TooMany}
 use Rattle.manifests.specs.declared.fault.ManifestFault.{ManifestFault}
-use Rattle.manifests.specs.Steps.{andThen}
-use Rattle.manifests.specs.Words.{path-of}
-use Rattle.manifests.specs.Keywords.{entry-of}
+use Rattle.mtree.specs.Steps.{andThen}
+use Rattle.mtree.specs.Words.{path-of}
+use Rattle.mtree.specs.Keywords.{entry-of}
 use Rattle.manifests.specs.Manifests.{rises, sheltered, placed, row-of-line, fault-at, positioned, rows-from, header}
 use Rattle.manifests.specs.Laws.{Index-then-load}
 use Rattle.manifests.proofs.BuiltRows.{then-ok, if-ok, positioned-ok}

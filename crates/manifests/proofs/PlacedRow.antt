@@ -15,8 +15,8 @@ use Rattle.paths.specs.Names.{parent}
 use Rattle.rows.specs.Maps.{Names}
 use Rattle.trees.specs.declared.entry.Entry.{Entry}
 use Rattle.trees.specs.Entries.{Row}
-use Rattle.manifests.specs.declared.fault.Cause.{Cause}
-use Rattle.manifests.specs.declared.fault.Cause.the-variants.{Order, Parent, TooMany}
+use Rattle.mtree.specs.declared.fault.Cause.{Cause}
+use Rattle.mtree.specs.declared.fault.Cause.the-variants.{Order, Parent, TooMany}
 use Rattle.manifests.specs.Lasts.{Built, last-row, rises-last, shelter, by-last}
 use Rattle.manifests.specs.Manifests.{rises, sheltered, placed}
 use Rattle.manifests.proofs.LastRow.{rises-by, sheltered-by}

@@ -18,12 +18,13 @@ use Rattle.rows.specs.Maps.{Names}
 use Rattle.rows.specs.Rows.{row-of, rows-of}
 use Rattle.trees.specs.declared.entry.Entry.{Entry}
 use Rattle.trees.specs.Entries.{Row}
-use Rattle.manifests.specs.declared.fault.Cause.{Cause}
-use Rattle.manifests.specs.declared.fault.Cause.the-variants.{Word, Order, Parent, TooMany}
+use Rattle.mtree.specs.declared.fault.Cause.{Cause}
+use Rattle.mtree.specs.declared.fault.Cause.the-variants.{Word, Order, Parent, TooMany}
 use Rattle.manifests.specs.declared.fault.ManifestFault.{ManifestFault}
-use Rattle.manifests.specs.Steps.{andThen}
-use Rattle.manifests.specs.Words.{path-of}
-use Rattle.manifests.specs.Keywords.{entry-of}
+use Rattle.mtree.specs.Steps.{andThen}
+use Rattle.mtree.specs.Words.{path-of}
+use Rattle.mtree.specs.Keywords.{entry-of}
+use Rattle.mtree.specs.Lines.{line-of}
 use Rattle.manifests.specs.Manifests.{rises, sheltered, placed, row-of-line, fault-at, positioned, rows-from}
 
 module _ (limit at : ℕ) (rows : List Row) (s : List ℕ) where
@@ -52,6 +53,14 @@ module _ (limit at : ℕ) (rows : List Row) (s : List ℕ) where
 
     pub rows-cut : 0 < length s → rows-from limit at rows (pieces 10 s) ≡ Err (fault-at at Word)
     rows-cut l = one ∙ cond-false (eqb (length (front 10 s)) 0) _ _ (ne-eqb _ 0 (λ z. omega arith))
+
+-- what a line says, and then its place
+pub row-line : (limit : ℕ) (rows : List Row) (l : List ℕ) → row-of-line limit rows l ≡ andThen (line-of l) (λ r. placed limit rows (r .0) (r .1))
+row-line limit rows l = go (path-of (front 32 l)) (entry-of (later 32 l)) where
+  go : (x : Result Names Cause) (y : Result Entry Cause) → andThen x (λ p. andThen y (λ e. placed limit rows p e)) ≡ andThen {A = Row} (andThen x (λ p. andThen y (λ e. Ok (p, e)))) (λ r. placed limit rows (r .0) (r .1))
+  go (Err c) y = refl
+  go (Ok p) (Err c) = refl
+  go (Ok p) (Ok e) = refl
 
 -- ---- a line that is taken has room
 

@@ -1,9 +1,3 @@
-pub mod Steps
-pub mod Escapes
-pub mod Numbers
-pub mod Words
-pub mod Lexed
-pub mod Keywords
 pub mod Manifests
 pub mod Faults
 pub mod Laws

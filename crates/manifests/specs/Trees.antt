@@ -9,7 +9,7 @@ use Rattle.rows.specs.declared.row.Row.{Row as Stored}
 use Rattle.rows.specs.Rows.{rows-of}
 use Rattle.trees.specs.declared.entry.Entry.{Entry}
 use Rattle.trees.specs.Entries.{Row}
-use Rattle.manifests.specs.declared.fault.Cause.the-variants.{OtherRows}
+use Rattle.mtree.specs.declared.fault.Cause.the-variants.{OtherRows}
 use Rattle.manifests.specs.declared.fault.ManifestFault.{ManifestFault}
 use Rattle.manifests.specs.Manifests.{indexed, fault-at}
 

@@ -16,11 +16,9 @@ ghost use Rattle.rows.specs.Rows.{row-of, rows-of};
 ghost use Rattle.trees.specs.Entries.{is-dir as isDir};
 ghost use Rattle.manifests.specs.Lasts.{Built, last-row, rises-last, within, shelter, by-last, Stepped};
 ghost use Rattle.manifests.specs.Manifests.{placed, row-of-line, header, rows-from, rows-in};
-use crate::fault::Cause;
 use crate::fault::ManifestFault;
-use crate::lexer::Lexer;
-use crate::lexer::Token;
-use crate::words::read_path;
+use mtree::fault::Cause;
+use mtree::line::parse_line;
 use paths::Path;
 use paths::parts::front_len;
 use rows::row::Row;
@@ -115,19 +113,13 @@ fn place(rows: &[Row<Entry>], limit: usize, path: Path, entry: Entry) -> Result<
     Ok(Row { path, value: entry })
 }
 
-// The row of a line whose first byte has the position `at`.
-fn read_line(at: usize, line: &[u8], rows: &[Row<Entry>], limit: usize) -> Result<Row<Entry>, Cause>
-    requires fits { ⌜ at + length (now line) < 2 ^ 64 ⌝ }
-    requires built { ⌜ Built (rows-of (now rows)) ⌝ }
+// The row of a line behind the rows before it.
+fn read_line(line: &[u8], rows: &[Row<Entry>], limit: usize) -> Result<Row<Entry>, Cause>
+    requires { ⌜ Built (rows-of (now rows)) ⌝ }
     ensures { λ r. ⌜ Cases r (λ row. row-of-line limit (rows-of (now (rows .entry))) (now (line .entry)) ≡ Ok (row-of row)) (λ e. row-of-line limit (rows-of (now (rows .entry))) (now (line .entry)) ≡ Err e) ⌝ }
 {
-    let mut lexer = Lexer::new(at, line);
-    let Token::Word(word) = lexer.token() else {
-        return Err(Cause::Word);
-    };
-    let path = read_path(word.text)?;
-    let entry = lexer.entry()?;
-    place(rows, limit, path, entry)
+    let row = parse_line(line)?;
+    place(rows, limit, row.path, row.value)
 }
 
 fn is_header(text: &[u8]) -> bool
@@ -181,7 +173,7 @@ fn next_row(
         }
         return Ok(None);
     }
-    let row = positioned(at, read_line(at, &rest[0..end], rows, limit))?;
+    let row = positioned(at, read_line(&rest[0..end], rows, limit))?;
     Ok(Some(Found {
         row,
         next: at + end + 1,

@@ -7,5 +7,4 @@ pub fn listing_reads_back()
 
 pub fn index_then_load()
     ensures { λ _. ⌜ Index-then-load ⌝ }
-{
-}
+{}

@@ -6,7 +6,7 @@ use crate::PathFault;
 use std::fmt;
 
 impl PathFault {
-    pub fn cause(self) -> u8
+    fn cause(self) -> u8
         ensures { λ r. ⌜ r ≡ causeOf self ⌝ }
     {
         match self {
@@ -17,7 +17,7 @@ impl PathFault {
     }
 
     // The count of the bad name, or of the first name too many.
-    pub fn place(self) -> u8
+    fn place(self) -> u8
         ensures { λ r. ⌜ r ≡ placeOf self ⌝ }
     {
         match self {

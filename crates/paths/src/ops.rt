@@ -45,12 +45,14 @@ impl Path {
         }
     }
 
+    // The text of the path.
     pub fn as_bytes(&self) -> &[u8]
         ensures { λ r. ⌜ now r ≡ text (now (self .entry)) ⌝ }
     {
         &self.bytes[0..self.len]
     }
 
+    // Path order: name by name.
     pub fn compare(&self, other: &Path) -> Ordering
         ensures { λ r. ⌜ r ≡ order (now (self .entry)) (now (other .entry)) ⌝ }
     {
@@ -65,14 +67,7 @@ impl Path {
         scan::count_names(self.as_bytes())
     }
 
-    // The length of the prefix of `k` names; of the whole path, where there are no more.
-    pub fn prefix_len(&self, k: usize) -> usize
-        ensures value { λ r. ⌜ r ≡ length (join (take k (names (now (self .entry))))) ⌝ }
-        ensures bound { λ r. ⌜ r ≤ 120 ⌝ }
-    {
-        scan::prefix_end(self.as_bytes(), k)
-    }
-
+    // The prefix of `k` names; the whole path, where there are no more.
     pub fn prefix(&self, k: usize) -> Path
         ensures { λ r. ⌜ names r ≡ take k (names (now (self .entry))) ⌝ }
     {
@@ -100,7 +95,7 @@ impl Path {
     }
 
     // What is wrong with `name` as one more name.
-    pub fn child_fault(&self, name: &[u8]) -> Option<PathFault>
+    fn child_fault(&self, name: &[u8]) -> Option<PathFault>
         ensures { λ r. ⌜ r ≡ childFault (names (now (self .entry))) (now (name .entry)) ⌝ }
     {
         let whole = if self.len == 0 {
@@ -134,6 +129,7 @@ impl Path {
         Path::of_good(&held[0..end])
     }
 
+    // The path with one more name.
     pub fn child(&self, name: &[u8]) -> Result<Path, PathFault>
         ensures { λ r. ⌜ Child (now (self .entry)) (now (name .entry)) r ⌝ }
     {
@@ -147,6 +143,7 @@ impl Path {
         }
     }
 
+    // Whether the other path is this one or lies under it.
     pub fn is_prefix_of(&self, other: &Path) -> bool
         ensures { λ r. ⌜ Decides r (Under (names (now (self .entry))) (names (now (other .entry)))) ⌝ }
     {

@@ -4,7 +4,7 @@ use Rattle.std.specs.Orderings.{Decides}
 use Rattle.paths.specs.Paths.{names}
 use Rattle.manifests.specs.Lasts.{within}
 use Rattle.manifests.proofs.LastRow.{within-says}
-use Rattle.manifests.proofs.Deciding.{agree}
+use Rattle.mtree.proofs.Deciding.{agree}
 use Rattle.manifests.proofs.reader.is_within.Needs as need
 
 pub returns : need.returns

@@ -10,7 +10,7 @@ use Rattle.std.specs.declared.result.Result.the-variants.{Ok}
 use Rattle.rows.specs.Maps.{ascending}
 use Rattle.rows.specs.Rows.{rows-of}
 use Rattle.trees.specs.Entries.{Row, closed}
-use Rattle.manifests.specs.declared.fault.Cause.the-variants.{OtherRows}
+use Rattle.mtree.specs.declared.fault.Cause.the-variants.{OtherRows}
 use Rattle.manifests.specs.declared.fault.ManifestFault.{ManifestFault}
 use Rattle.manifests.specs.Manifests.{rows-in, indexed, fault-at}
 use Rattle.manifests.specs.Trees.{Refused}

@@ -1,0 +1,4 @@
+pub mod Machine
+pub mod Digits
+pub mod Dotting
+pub mod Deciding
