@@ -1,5 +1,5 @@
 // What holds of every manifest.
-ghost use Rattle.manifests.specs.Laws.{Listing-reads-back, Index-then-load};
+ghost use Rattle.manifests.specs.Laws.{Index-makes-tree, Index-then-load, Listing-reads-back};
 
 pub fn listing_reads_back()
     ensures { λ _. ⌜ Listing-reads-back ⌝ }
@@ -7,4 +7,8 @@ pub fn listing_reads_back()
 
 pub fn index_then_load()
     ensures { λ _. ⌜ Index-then-load ⌝ }
+{}
+
+pub fn index_makes_tree()
+    ensures { λ _. ⌜ Index-makes-tree ⌝ }
 {}

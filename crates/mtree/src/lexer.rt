@@ -73,6 +73,7 @@ impl<'a> Lexer<'a> {
         requires { ⌜ now self .at + length (now (now self .rest)) < 2 ^ 64 ⌝ }
         ensures value { λ r. ⌜ now r ≡ front 32 (now (now (self .entry) .rest)) ⌝ }
         ensures after { λ _. ⌜ unread (now (self .exit)) ≡ later 32 (now (now (self .entry) .rest)) ⌝ }
+        ensures place { λ _. ⌜ now (self .exit) .at + length (now (now (self .exit) .rest)) ≡ now (self .entry) .at + length (now (now (self .entry) .rest)) ⌝ }
         ensures ready { λ _. ⌜ Ready (now (self .exit)) ⌝ }
     {
         let rest = self.rest;
@@ -92,6 +93,7 @@ impl<'a> Lexer<'a> {
         requires { ⌜ now self .at + length (now (now self .rest)) < 2 ^ 64 ⌝ }
         ensures value { λ r. ⌜ shown r ≡ next-token (now (self .entry) .stage) (now (self .entry) .at) (now (now (self .entry) .rest)) ⌝ }
         ensures after { λ _. ⌜ unread (now (self .exit)) ≡ tail (unread (now (self .entry))) ⌝ }
+        ensures place { λ _. ⌜ now (self .exit) .at + length (now (now (self .exit) .rest)) ≡ now (self .entry) .at + length (now (now (self .entry) .rest)) ⌝ }
         ensures ready { λ _. ⌜ Ready (now (self .exit)) ⌝ }
     {
         let at = self.at;

@@ -18,6 +18,7 @@ returns c =
       | then-end-rest w ↦ record {
         value = cut-front 32 s _ is;
         after = ap unread (w .self-is) ∙ sym (later-none 32 s (sym is ∙ w .if-end-rest .taken));
+        place = ap (λ l. l .at + length (l .rest .now)) (w .self-is);
         ready = subst Ready (sym (w .self-is)) (record { fits = c .pre; started = tt });
       }
       | else-end-rest w ↦
@@ -25,6 +26,7 @@ returns c =
           record {
             value = cut-front 32 s _ is;
             after = ap unread (w .self-is) ∙ sym (cut-later 32 s _ is lt);
+            place = ap (λ l. l .at + length (l .rest .now)) (w .self-is) ∙ simp (length-take, length-drop) (omega (arith, lt));
             ready = subst Ready (sym (w .self-is)) (record { fits = simp (length-take, length-drop) (omega (arith, c .pre)); started = tt });
           }
     ]
