@@ -35,7 +35,7 @@ use Rattle.mtree.specs.Numbers.{below, digit-value, numeral-from, numeral, mode
 use Rattle.mtree.specs.Lexed.{tail}
 use Rattle.mtree.specs.Keywords.{type-name, mode-name, size-name, content-name, dir-word, file-word, expected, valued, number, no-more, dir-of, file-of, typed, entry-of}
 use Rattle.manifests.specs.Lasts.{Built}
-use Rattle.manifests.specs.Manifests.{rises, sheltered, placed, row-of-line, fault-at, positioned, rows-from, header, indexed}
+use Rattle.manifests.specs.Manifests.{rises, under-dir, placed, row-of-line, fault-at, positioned, rows-from, header, indexed}
 use Rattle.manifests.proofs.Placing.{some-dir}
 use Rattle.manifests.proofs.Placing.{in-right}
 
@@ -226,19 +226,19 @@ module _ (rows : List Row) (p : Names) (e : Entry) (b : Built rows) (h : rises r
   new-there : at whole p ≡ Some e
   new-there = holds-at whole rise p e (in-right rows ((p, e) ∷ []) (p, e) (inl refl))
 
-  parent-dir : (q : Names) → p ≡ q → sheltered rows q e ≡ true → is-dir (at whole (parent q)) ≡ true
+  parent-dir : (q : Names) → p ≡ q → under-dir rows q e ≡ true → is-dir (at whole (parent q)) ≡ true
   parent-dir [] is s = ap is-dir (sym (ap (at whole) is) ∙ new-there) ∙ s
   parent-dir (n ∷ q) is s = kept (parent (n ∷ q)) s
 
-  pushed : sheltered rows p e ≡ true → fine p ≡ true → in-range e ≡ true → Built whole
+  pushed : under-dir rows p e ≡ true → fine p ≡ true → in-range e ≡ true → Built whole
   pushed s f g =
       let last = and-from ((fine p && in-range e) && is-dir (at whole (parent p))) true (and-from (fine p && in-range e) (is-dir (at whole (parent p))) (and-from (fine p) (in-range e) f g) (parent-dir p refl s)) refl in
       and-from (ascending whole) (closed whole whole) rise (closed-more rows whole kept rows ((p, e) ∷ []) (and-parts (ascending rows) (closed rows rows) b .1) last)
 
-placed-parts : (limit : ℕ) (rows : List Row) (p : Names) (e : Entry) (r : Row) → placed limit rows p e ≡ Ok r → (rises rows p ≡ true) × (sheltered rows p e ≡ true) × ((p, e) ≡ r)
+placed-parts : (limit : ℕ) (rows : List Row) (p : Names) (e : Entry) (r : Row) → placed limit rows p e ≡ Ok r → (rises rows p ≡ true) × (under-dir rows p e ≡ true) × ((p, e) ≡ r)
 placed-parts limit rows p e r h =
-    let a = if-ok (rises rows p) (cond (sheltered rows p e) (cond (ltb (length rows) limit) (Ok (p, e)) (Err TooMany)) (Err Parent)) Order r h in
-    let b = if-ok (sheltered rows p e) (cond (ltb (length rows) limit) (Ok (p, e)) (Err TooMany)) Parent r (a .1) in
+    let a = if-ok (rises rows p) (cond (under-dir rows p e) (cond (ltb (length rows) limit) (Ok (p, e)) (Err TooMany)) (Err Parent)) Order r h in
+    let b = if-ok (under-dir rows p e) (cond (ltb (length rows) limit) (Ok (p, e)) (Err TooMany)) Parent r (a .1) in
     let c = if-ok (ltb (length rows) limit) (Ok (p, e)) TooMany r (b .1) in
     let is : _≡_ {A = Row} (p, e) r = cc (c .1) in
     (a .0, b .0, is)

@@ -24,7 +24,7 @@ use Rattle.trees.specs.Entries.{Row, is-dir, closed}
 use Rattle.trees.proofs.Closed.{closed-rooted, up-dir}
 use Rattle.manifests.proofs.Placing.{some-dir}
 use Rattle.manifests.specs.Lasts.{Built, last-row, rises-last, within, by-last}
-use Rattle.manifests.specs.Manifests.{rises, sheltered}
+use Rattle.manifests.specs.Manifests.{rises, under-dir}
 
 pub last-at : (rows : List Row) (d : Row) → 0 < length rows → last-row rows ≡ Some (getD rows (length rows - 1) d)
 last-at [] d h = absurd (omega arith)
@@ -132,12 +132,12 @@ module _ (rows : List Row) (b : Built rows) (r : Row) (l : last-row rows ≡ Som
       let u = within-says up (r .0) .0 (q .0) in
       by-rest (u .0) (u .1) (q .1)
 
-  by-it : (e : Entry) → sheltered rows (n ∷ p) e ≡ by-last (Some r) (n ∷ p) e
+  by-it : (e : Entry) → under-dir rows (n ∷ p) e ≡ by-last (Some r) (n ∷ p) e
   by-it e = same-test (is-dir (at rows up)) (by-last (Some r) (n ∷ p) (r .1)) to-last from-last
 
-pub sheltered-by : (rows : List Row) (p : Names) (e : Entry) → Built rows → rises rows p ≡ true → sheltered rows p e ≡ by-last (last-row rows) p e
-sheltered-by rows [] e b h = refl
-sheltered-by rows (n ∷ p) e b h = go (last-row rows) refl where
+pub under-dir-by : (rows : List Row) (p : Names) (e : Entry) → Built rows → rises rows p ≡ true → under-dir rows p e ≡ by-last (last-row rows) p e
+under-dir-by rows [] e b h = refl
+under-dir-by rows (n ∷ p) e b h = go (last-row rows) refl where
   go : (o : Option Row) → last-row rows ≡ o → is-dir (at rows (parent (n ∷ p))) ≡ by-last o (n ∷ p) e
   go None l = ap (λ z. is-dir (at z (parent (n ∷ p)))) (last-none rows l)
   go (Some r) l = by-it rows b r l n p (sym (rises-by rows (n ∷ p) ∙ ap (λ o. rises-last o (n ∷ p)) l) ∙ h) e

@@ -20,7 +20,7 @@ use Rattle.manifests.specs.declared.fault.ManifestFault.{ManifestFault}
 use Rattle.mtree.specs.Steps.{andThen}
 use Rattle.mtree.specs.Words.{path-of}
 use Rattle.mtree.specs.Keywords.{entry-of}
-use Rattle.manifests.specs.Manifests.{rises, sheltered, placed, row-of-line, fault-at, positioned, rows-from, header}
+use Rattle.manifests.specs.Manifests.{rises, under-dir, placed, row-of-line, fault-at, positioned, rows-from, header}
 use Rattle.manifests.specs.Laws.{Index-then-load}
 use Rattle.manifests.proofs.BuiltRows.{then-ok, if-ok, positioned-ok}
 use Rattle.manifests.proofs.ReadLines.{row-room}
@@ -30,11 +30,11 @@ module _ (limit other : ℕ) where
 
   placed-within : (rows : List Row) (p : Names) (e : Entry) (r : Row) → length rows < other → placed limit rows p e ≡ Ok r → placed other rows p e ≡ Ok r
   placed-within rows p e r room h =
-      let a = if-ok (rises rows p) (cond (sheltered rows p e) (cond (ltb (length rows) limit) (Ok (p, e)) (Err TooMany)) (Err Parent)) Order r h in
-      let b = if-ok (sheltered rows p e) (cond (ltb (length rows) limit) (Ok (p, e)) (Err TooMany)) Parent r (a .1) in
+      let a = if-ok (rises rows p) (cond (under-dir rows p e) (cond (ltb (length rows) limit) (Ok (p, e)) (Err TooMany)) (Err Parent)) Order r h in
+      let b = if-ok (under-dir rows p e) (cond (ltb (length rows) limit) (Ok (p, e)) (Err TooMany)) Parent r (a .1) in
       let c = if-ok (ltb (length rows) limit) (Ok (p, e)) TooMany r (b .1) in
       cond-true (rises rows p) _ (Err Order) (a .0)
-      ∙ cond-true (sheltered rows p e) _ (Err Parent) (b .0)
+      ∙ cond-true (under-dir rows p e) _ (Err Parent) (b .0)
       ∙ cond-true (ltb (length rows) other) (Ok (p, e)) (Err TooMany) (lt-ltb (length rows) other room)
       ∙ c .1
 

@@ -17,15 +17,15 @@ use Rattle.trees.specs.declared.entry.Entry.{Entry}
 use Rattle.trees.specs.Entries.{Row}
 use Rattle.mtree.specs.declared.fault.Cause.{Cause}
 use Rattle.mtree.specs.declared.fault.Cause.the-variants.{Order, Parent, TooMany}
-use Rattle.manifests.specs.Lasts.{Built, last-row, rises-last, shelter, by-last}
-use Rattle.manifests.specs.Manifests.{rises, sheltered, placed}
-use Rattle.manifests.proofs.LastRow.{rises-by, sheltered-by}
+use Rattle.manifests.specs.Lasts.{Built, last-row, rises-last, parent-dir, by-last}
+use Rattle.manifests.specs.Manifests.{rises, under-dir, placed}
+use Rattle.manifests.proofs.LastRow.{rises-by, under-dir-by}
 
 pub by-last-none : (p : Names) (e : Entry) → 0 < length p → by-last None p e ≡ false
 by-last-none [] e h = absurd (omega arith)
 by-last-none (n ∷ p) e h = refl
 
-pub by-last-some : (r : Row) (p : Names) (e : Entry) → 0 < length p → by-last (Some r) p e ≡ shelter r (parent p)
+pub by-last-some : (r : Row) (p : Names) (e : Entry) → 0 < length p → by-last (Some r) p e ≡ parent-dir r (parent p)
 by-last-some r [] e h = absurd (omega arith)
 by-last-some r (n ∷ p) e h = refl
 
@@ -37,17 +37,17 @@ module _ (limit : ℕ) (rows : List Row) (p : Names) (e : Entry) (o : Option Row
   placed-order h = cond-false (rises rows p) _ _ (rising false h)
 
   module _ (up : rises-last o p ≡ true) where
-    sheltering : (t : Bool) → by-last o p e ≡ t → sheltered rows p e ≡ t
-    sheltering t h = sheltered-by rows p e built (rising true up) ∙ ap (λ x. by-last x p e) (sym is) ∙ h
+    under-dir-says : (t : Bool) → by-last o p e ≡ t → under-dir rows p e ≡ t
+    under-dir-says t h = under-dir-by rows p e built (rising true up) ∙ ap (λ x. by-last x p e) (sym is) ∙ h
 
     pub placed-parent : by-last o p e ≡ false → placed limit rows p e ≡ Err Parent
-    placed-parent h = cond-true (rises rows p) _ _ (rising true up) ∙ cond-false (sheltered rows p e) _ _ (sheltering false h)
+    placed-parent h = cond-true (rises rows p) _ _ (rising true up) ∙ cond-false (under-dir rows p e) _ _ (under-dir-says false h)
 
     module _ (in-dir : by-last o p e ≡ true) where
       pub placed-many : limit ≤ length rows → placed limit rows p e ≡ Err TooMany
       placed-many h =
-          cond-true (rises rows p) _ _ (rising true up) ∙ cond-true (sheltered rows p e) _ _ (sheltering true in-dir) ∙ cond-false (ltb (length rows) limit) _ _ (le-ltb _ _ h)
+          cond-true (rises rows p) _ _ (rising true up) ∙ cond-true (under-dir rows p e) _ _ (under-dir-says true in-dir) ∙ cond-false (ltb (length rows) limit) _ _ (le-ltb _ _ h)
 
       pub placed-ok : length rows < limit → placed limit rows p e ≡ Ok (p, e)
       placed-ok h =
-          cond-true (rises rows p) _ _ (rising true up) ∙ cond-true (sheltered rows p e) _ _ (sheltering true in-dir) ∙ cond-true (ltb (length rows) limit) _ _ (lt-ltb _ _ h)
+          cond-true (rises rows p) _ _ (rising true up) ∙ cond-true (under-dir rows p e) _ _ (under-dir-says true in-dir) ∙ cond-true (ltb (length rows) limit) _ _ (lt-ltb _ _ h)

@@ -20,7 +20,7 @@ use Rattle.rows.proofs.Firsts.{In, head-least, tail-ascends, holds-at, at-holds
 use Rattle.trees.specs.declared.entry.Entry.{Entry}
 use Rattle.trees.specs.Entries.{Row, is-dir}
 use Rattle.mtree.specs.declared.fault.Cause.the-variants.{Order, Parent, TooMany}
-use Rattle.manifests.specs.Manifests.{rises, sheltered, placed}
+use Rattle.manifests.specs.Manifests.{rises, under-dir, placed}
 
 -- ---- rows in two parts
 
@@ -83,14 +83,14 @@ module _ (done : List Row) (r : Row) (rest : List Row) (a : ascending (done ++ r
   itself-there : at (done ++ r ∷ rest) (r .0) ≡ Some (r .1)
   itself-there = holds-at (done ++ r ∷ rest) a (r .0) (r .1) (in-right done (r ∷ rest) r (inl refl))
 
-  shelter : (p : Names) → r .0 ≡ p → is-dir (at (done ++ r ∷ rest) (parent p)) ≡ true → sheltered done p (r .1) ≡ true
-  shelter [] is d = sym (ap is-dir (sym (ap (at (done ++ r ∷ rest)) is) ∙ itself-there)) ∙ d
-  shelter (n ∷ p) is d =
+  parent-dir : (p : Names) → r .0 ≡ p → is-dir (at (done ++ r ∷ rest) (parent p)) ≡ true → under-dir done p (r .1) ≡ true
+  parent-dir [] is d = sym (ap is-dir (sym (ap (at (done ++ r ∷ rest)) is) ∙ itself-there)) ∙ d
+  parent-dir (n ∷ p) is d =
       same-dir (parent (n ∷ p)) (ap (before (parent (n ∷ p))) is ∙ parent-before n p) d
 
   pub placed-back : (limit : ℕ) → length (done ++ r ∷ rest) ≤ limit → is-dir (at (done ++ r ∷ rest) (parent (r .0))) ≡ true → placed limit done (r .0) (r .1) ≡ Ok r
   placed-back limit few d =
       let room : length done < limit = omega (arith, length-append done (r ∷ rest)) in
       cond-true (rises done (r .0)) _ (Err Order) (rising done r rest a)
-      ∙ cond-true (sheltered done (r .0) (r .1)) _ (Err Parent) (shelter (r .0) refl d)
+      ∙ cond-true (under-dir done (r .0) (r .1)) _ (Err Parent) (parent-dir (r .0) refl d)
       ∙ cond-true (ltb (length done) limit) (Ok r) (Err TooMany) (lt-ltb (length done) limit room)

@@ -25,7 +25,7 @@ use Rattle.mtree.specs.Steps.{andThen}
 use Rattle.mtree.specs.Words.{path-of}
 use Rattle.mtree.specs.Keywords.{entry-of}
 use Rattle.mtree.specs.Lines.{line-of}
-use Rattle.manifests.specs.Manifests.{rises, sheltered, placed, row-of-line, fault-at, positioned, rows-from}
+use Rattle.manifests.specs.Manifests.{rises, under-dir, placed, row-of-line, fault-at, positioned, rows-from}
 
 module _ (limit at : ℕ) (rows : List Row) (s : List ℕ) where
   module _ (h : length (front 10 s) < length s) where
@@ -68,7 +68,7 @@ never : {A B P : Type 0} (a : A) (b : B) → _≡_ {A = Result B A} (Err a) (Ok 
 never a b e = let z : _≡_ {A = ℕ} 0 1 = cc in absurd (omega arith)
 
 placed-room : (limit : ℕ) (rows : List Row) (p : Names) (e : Entry) (r : Row) → placed limit rows p e ≡ Ok r → length rows < limit
-placed-room limit rows p e r h = go (rises rows p) (sheltered rows p e) (ltb (length rows) limit) refl h where
+placed-room limit rows p e r h = go (rises rows p) (under-dir rows p e) (ltb (length rows) limit) refl h where
   go : (t u v : Bool) → ltb (length rows) limit ≡ v → cond t (cond u (cond v (Ok (p, e)) (Err TooMany)) (Err Parent)) (Err Order) ≡ Ok r → length rows < limit
   go false u v f h = never Order r h
   go true false v f h = never Parent r h

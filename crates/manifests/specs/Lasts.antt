@@ -36,13 +36,13 @@ within (n ∷ p) (k ∷ q) = isEq (byBytes n k) && within p q
 
 -- the path d, which is the parent of a path after the row r, is a directory: it is a prefix of r's
 -- path, and not that path itself where a file stands there
-abbrev pub shelter : Row → Names → Bool
-shelter r d = within d (r .0) && (is-dir (Some (r .1)) || not (isEq (byNames d (r .0))))
+abbrev pub parent-dir : Row → Names → Bool
+parent-dir r d = within d (r .0) && (is-dir (Some (r .1)) || not (isEq (byNames d (r .0))))
 
 abbrev pub by-last : Option Row → Names → Entry → Bool
 by-last o [] e = is-dir (Some e)
 by-last None (n ∷ p) e = false
-by-last (Some r) (n ∷ p) e = shelter r (parent (n ∷ p))
+by-last (Some r) (n ∷ p) e = parent-dir r (parent (n ∷ p))
 
 -- the line at `at` gives the row r, and what is left begins at `next`
 pub record Stepped (limit : ℕ) (text : List ℕ) (at : ℕ) (rows : List Row) (r : Row) (next : ℕ) : Type 0 where

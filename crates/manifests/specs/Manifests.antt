@@ -27,14 +27,14 @@ rises (r ∷ []) p = before (r .0) p
 rises (r ∷ s ∷ rs) p = rises (s ∷ rs) p
 
 -- the root is a directory, and any other path stands under an earlier directory
-abbrev pub sheltered : List Row → Names → Entry → Bool
-sheltered rows [] e = is-dir (Some e)
-sheltered rows (n ∷ p) e = is-dir (at rows (parent (n ∷ p)))
+abbrev pub under-dir : List Row → Names → Entry → Bool
+under-dir rows [] e = is-dir (Some e)
+under-dir rows (n ∷ p) e = is-dir (at rows (parent (n ∷ p)))
 
 -- a row behind the rows before it, of which there may be `limit`
 abbrev pub placed : ℕ → List Row → Names → Entry → Result Row Cause
 placed limit rows p e =
-    cond (rises rows p) (cond (sheltered rows p e) (cond (ltb (length rows) limit) (Ok (p, e)) (Err TooMany)) (Err Parent)) (Err Order)
+    cond (rises rows p) (cond (under-dir rows p e) (cond (ltb (length rows) limit) (Ok (p, e)) (Err TooMany)) (Err Parent)) (Err Order)
 
 -- the row of a line: its path word, its keywords, its place
 abbrev pub row-of-line : ℕ → List Row → List ℕ → Result Row Cause

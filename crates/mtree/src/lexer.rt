@@ -58,7 +58,7 @@ fn field<'a>(at: usize, text: &'a [u8]) -> Token<'a>
 }
 
 impl<'a> Lexer<'a> {
-    pub fn new(line: &'a [u8]) -> Lexer<'a>
+    pub(crate) fn new(line: &'a [u8]) -> Lexer<'a>
         ensures { λ r. ⌜ (r .at ≡ 0) × (now (r .rest) ≡ now (line .entry)) × (r .stage ≡ Stage.Start) ⌝ }
     {
         Lexer {
@@ -89,7 +89,7 @@ impl<'a> Lexer<'a> {
     }
 
     // The next token, and goes past it.
-    pub fn token(&mut self) -> Token<'a>
+    pub(crate) fn token(&mut self) -> Token<'a>
         requires { ⌜ now self .at + length (now (now self .rest)) < 2 ^ 64 ⌝ }
         ensures value { λ r. ⌜ shown r ≡ next-token (now (self .entry) .stage) (now (self .entry) .at) (now (now (self .entry) .rest)) ⌝ }
         ensures after { λ _. ⌜ unread (now (self .exit)) ≡ tail (unread (now (self .entry))) ⌝ }

@@ -12,13 +12,16 @@ pub mod ranks;
 mod scan;
 pub mod theorems;
 
-#[derive(Clone, Copy, Debug, PartialEq)]
+// Why a text is no path.
+#[derive(Clone, Copy)]
 pub enum PathFault {
     TooLong,
+    // The name of that count, from 0, is bad.
     BadName(u8),
     TooDeep,
 }
 
+// A good path: its text, with zeros behind it, so that equal paths are equal values.
 #[derive(Clone, Copy)]
 pub struct Path {
     bytes: [u8; 120],

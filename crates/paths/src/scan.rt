@@ -1,4 +1,4 @@
-// Functions over the bytes of a path.
+// The rule of names and paths, and what is told of a path by its bytes.
 ghost use mathlib.Core.Path.{_≡_};
 ghost use Prim.Native.Nat.{_≤_};
 ghost use lib.ListN.{length, take, drop};
@@ -8,6 +8,7 @@ use crate::PathFault;
 use crate::parts::front_len;
 use std::cmp::Ordering;
 
+// No byte is 0 or `/`.
 fn is_plain(n: &[u8]) -> bool
     ensures { λ r. ⌜ r ≡ plain (now (n .entry)) ⌝ }
 {
@@ -19,6 +20,7 @@ fn is_plain(n: &[u8]) -> bool
     true
 }
 
+// Names that directories and layer files keep for themselves.
 fn is_reserved(n: &[u8]) -> bool
     ensures { λ r. ⌜ r ≡ reserved (now (n .entry)) ⌝ }
 {
@@ -37,7 +39,7 @@ pub(crate) fn good_name(n: &[u8]) -> bool
 }
 
 // What is wrong with a text as a path.
-pub fn fault_of(bytes: &[u8]) -> Option<PathFault>
+pub(crate) fn fault_of(bytes: &[u8]) -> Option<PathFault>
     ensures { λ r. ⌜ r ≡ fault (now (bytes .entry)) ⌝ }
 {
     if bytes.len() > 120 {
@@ -62,6 +64,7 @@ pub fn fault_of(bytes: &[u8]) -> Option<PathFault>
     Some(PathFault::TooDeep)
 }
 
+// What a byte counts in path order: `/` ends a name, so it comes before every byte of one.
 fn weight_of(b: u8) -> u8
     ensures { λ r. ⌜ r ≡ weight b ⌝ }
 {
@@ -109,6 +112,7 @@ pub(crate) fn goes_on(a: &[u8], b: &[u8]) -> bool
     if n == b.len() { true } else { b[n] == b'/' }
 }
 
+// How many names a text has.
 pub(crate) fn count_names(s: &[u8]) -> usize
     ensures { λ r. ⌜ r ≡ length (split (now (s .entry))) ⌝ }
 {

@@ -8,7 +8,7 @@ use Rattle.std.specs.declared.option.Option.the-variants.{Some}
 use Rattle.rows.specs.Rows.{row-of, rows-of}
 use Rattle.manifests.specs.Lasts.{last-row}
 use Rattle.manifests.proofs.LastRow.{last-at}
-use Rattle.manifests.proofs.reader.last_of.Needs as need
+use Rattle.manifests.proofs.admit.last_of.Needs as need
 
 pub returns-then-n-eq0 : need.returns-then-n-eq0
 returns-then-n-eq0 c = sym (ap (λ l. last-row (rows-of l)) (nil-from-length (c .args .rows .now) (c .if-n-eq0 .taken)))

@@ -5,7 +5,7 @@ use Rattle.paths.specs.Paths.{names}
 use Rattle.manifests.specs.Lasts.{within}
 use Rattle.manifests.proofs.LastRow.{within-says}
 use Rattle.mtree.proofs.Deciding.{agree}
-use Rattle.manifests.proofs.reader.is_within.Needs as need
+use Rattle.manifests.proofs.admit.is_within.Needs as need
 
 pub returns : need.returns
 returns c =
