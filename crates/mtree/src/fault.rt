@@ -45,7 +45,7 @@ impl Cause {
         match self {
             Cause::Header => Ok(30),
             Cause::Word => Ok(31),
-            Cause::Path(fault) => Err(fault),
+            Cause::Path(path) => Err(path),
             Cause::Keyword => Ok(32),
             Cause::Value => Ok(33),
             Cause::Order => Ok(34),

@@ -1,6 +1,6 @@
 // Rows in path order: a path and a value each, and the one search among them.
 mod bound;
 mod placed;
-pub mod position;
+mod position;
 pub mod row;
 pub mod sorted;

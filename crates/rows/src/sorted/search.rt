@@ -97,20 +97,6 @@ impl<'a, V> Sorted<'a, V> {
         Sorted { rows: &[] }
     }
 
-    pub fn rows(&self) -> &'a [Row<V>]
-        ensures { λ r. ⌜ now r ≡ now (now (self .entry) .rows) ⌝ }
-    {
-        self.rows
-    }
-
-    // How many rows come before a position: the index of the first row not before it.
-    pub fn lower_bound(&self, position: Position) -> usize
-        ensures value { λ r. ⌜ r ≡ lead (place-of (position .entry)) (rows-of (now (now (self .entry) .rows))) ⌝ }
-        ensures within { λ r. ⌜ r ≤ length (now (now (self .entry) .rows)) ⌝ }
-    {
-        count_before(self.rows, position)
-    }
-
     // The value at a path.
     pub fn find(&self, path: &Path) -> Option<&'a V>
         ensures { λ r. ⌜ mapped now r ≡ at (rows-of (now (now (self .entry) .rows))) (names (now (path .entry))) ⌝ }
