@@ -1,4 +1,7 @@
 // The tree that a manifest makes, over lent rows: the bottom of a pile.
+
+#![tactic(auto)]
+
 ghost use Rattle.std.specs.Prelude.{◌≡◌, true, ◌&&◌};
 ghost use Rattle.rows.specs.Maps.{ascending};
 ghost use Rattle.rows.specs.Sorts.{kept};

@@ -1,5 +1,8 @@
 // Runs the cases of the file `cases` through the public calls, and prints each line of it with what
 // became of it.
+
+#![tactic(auto)]
+
 mod asking;
 mod faults;
 mod indexing;

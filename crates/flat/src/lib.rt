@@ -1,4 +1,7 @@
 // The flat tree: at most 256 entries, in one table.
+
+#![tactic(auto)]
+
 ghost use Rattle.std.specs.Prelude.{◌≡◌, true};
 ghost use Rattle.rows.specs.Tables.{listed};
 ghost use Rattle.flat.specs.Rooms.{is_tree};

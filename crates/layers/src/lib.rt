@@ -1,4 +1,7 @@
 // Layers: at most 192 rows of marks, and what they say of a path.
+
+#![tactic(auto)]
+
 pub mod choosing;
 pub mod layer;
 pub mod marking;

@@ -1,4 +1,7 @@
 // The listing of a tree: an mtree text, one line a path.
+
+#![tactic(auto)]
+
 ghost use Rattle.std.specs.Prelude.{◌≡◌, ◌+◌, ◌<◌, ◌≤◌, ◌++◌, length, take, drop, if◌then◌else◌, Ok, Err, MatchOption, nat_lt};
 ghost use Rattle.std.specs.Option.{option_map};
 ghost use Rattle.paths.specs.Paths.{names};

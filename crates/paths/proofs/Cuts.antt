@@ -1,11 +1,10 @@
 -- What the first name of a text says. Assumes nothing.
-use Rattle.std.proofs.Common.{◌≡◌, ℕ, suc, ◌+◌, ◌-◌, ◌<◌, ◌≤◌, Bool, true, false, cond, not, ◌&&◌, eqb, leb, List, [], ◌∷◌, ◌++◌, length, get_or, take, drop, Some, None, Option, sym, refl, ap, ◌∙◌, subst, arith}
+use Rattle.std.proofs.Common.{◌≡◌, ℕ, ◌+◌, ◌<◌, ◌≤◌, true, false, not, ◌&&◌, leb, List, [], ◌∷◌, length, get_or, drop, Some, refl, ap, ◌∙◌, arith}
 use Rattle.std.proofs.lemmas.List.{at_drop_more, at_drop_all}
 use Rattle.std.proofs.lemmas.Bool.{and_left, and_right, cond-true, cond-false, eq-eqb, ne_eqb, le-leb, lt-leb}
-use Rattle.paths.specs.declared.PathFault.{PathFault}
-use Rattle.paths.specs.declared.PathFault.TheVariants.{TooLong, BadName, TooDeep}
-use Rattle.paths.specs.Pieces.{front, later, pieces}
-use Rattle.paths.specs.Names.{split, join, plain, good_name, fault_in, fault}
+use Rattle.paths.specs.declared.PathFault.TheVariants.{BadName, TooDeep}
+use Rattle.paths.specs.Pieces.{pieces}
+use Rattle.paths.specs.Names.{split, plain, good_name, fault_in, fault}
 
 pub split-some : (s : List ℕ) → 0 < length s → split s ≡ pieces 47 s
 split-some [] h = absurd (omega arith)

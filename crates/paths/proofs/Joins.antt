@@ -1,12 +1,11 @@
 -- Texts and lists of names. Assumes nothing.
-use Rattle.std.proofs.Common.{◌≡◌, ℕ, zero, suc, ◌+◌, ◌-◌, ◌<◌, ◌≤◌, Bool, true, false, cond, not, ◌&&◌, eqb, leb, ◌⊎◌, List, [], ◌∷◌, ◌++◌, length, get_or, take, drop, is_some, Some, None, Option, sym, refl, ap, ◌∙◌, subst, inl, inr, ⊎_elim, append_assoc, append-nil, add-zero, zero-add, arith}
+use Rattle.std.proofs.Common.{◌≡◌, ℕ, zero, suc, ◌+◌, ◌-◌, ◌<◌, ◌≤◌, Bool, true, false, cond, not, ◌&&◌, eqb, leb, ◌⊎◌, List, [], ◌∷◌, ◌++◌, length, get_or, take, is_some, Some, None, sym, refl, ap, ◌∙◌, subst, inl, inr, ⊎_elim, append_assoc, append-nil, add-zero, zero-add, arith}
 use Rattle.std.proofs.lemmas.List.{take_at, length-append, length-map, get_or-map}
-use Rattle.std.proofs.lemmas.Bool.{cases_Bool, both_ways, and_parts, not-true, cond-true, cond-false, eq-eqb, ne_eqb, eqb-true, eqb-false, leb-true, leb-false, true≢false, le-leb, lt-leb}
+use Rattle.std.proofs.lemmas.Bool.{and_parts, not-true, cond-true, cond-false, eq-eqb, ne_eqb, eqb-true, eqb-false, leb-true, leb-false, true≢false, le-leb, lt-leb}
 use Rattle.std.specs.List.{AllByRecursion as All}
-use Rattle.paths.specs.declared.PathFault.{PathFault}
 use Rattle.paths.specs.declared.PathFault.TheVariants.{TooLong, BadName, TooDeep}
 use Rattle.paths.specs.Pieces.{front, later, pieces}
-use Rattle.paths.specs.Names.{split, join, plain, reserved, good_name, fault_in, fault, good, parent, prefixes, Under}
+use Rattle.paths.specs.Names.{split, join, plain, reserved, good_name, fault_in, good, parent, prefixes, Under}
 use Rattle.paths.specs.Order.{goes_on}
 use Rattle.paths.specs.Paths.{child_fault}
 use Rattle.paths.proofs.Laws.{NoZero}

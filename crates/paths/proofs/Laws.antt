@@ -1,12 +1,12 @@
 -- The laws of the order of paths. Assumes nothing.
-use Rattle.std.proofs.Common.{◌≡◌, ℕ, ◌<◌, Bool, true, false, cond, not, ◌&&◌, eqb, ltb, List, [], ◌∷◌, ◌++◌, Ordering, Less, Equal, Greater, sym, refl, ap, ◌∙◌, subst, arith}
+use Rattle.std.proofs.Common.{◌≡◌, ℕ, ◌<◌, Bool, true, false, cond, eqb, ltb, List, [], ◌∷◌, ◌++◌, Ordering, Less, Equal, Greater, sym, refl, ap, ◌∙◌, subst, arith}
 use Rattle.std.proofs.lemmas.Bool.{true≢false, lt-ltb, le-ltb, ne_eqb, cond-true, cond-false}
 use Rattle.std.specs.Cmp.{IsTotalOrder, nat_cmp_total, ranks}
-use Rattle.std.specs.Cmp.Lexicographic.{slice_cmp, lexical, lists_total}
+use Rattle.std.specs.Cmp.Lexicographic.{slice_cmp, lists_total}
 use Rattle.std.specs.Ordering.{is_lt, is_le, is_gt, ordering_reverse, ordering_then, MatchOrdering, nat_cmp}
 use Rattle.paths.specs.Pieces.{front, later, pieces}
 use Rattle.paths.specs.Names.{split, Under}
-use Rattle.paths.specs.Order.{by_bytes, by_names, by_weight, weight}
+use Rattle.paths.specs.Order.{by_bytes, by_names, by_weight}
 
 then_assoc : (a b c : Ordering) → ordering_then (ordering_then a b) c ≡ ordering_then a (ordering_then b c)
 then_assoc Less b c = refl
@@ -44,14 +44,8 @@ split-order (x ∷ xs) (y ∷ ys) p q = pieces-order (x ∷ xs) (y ∷ ys) p q
 
 -- ---- a total order
 
-pub total : IsTotalOrder (λ (a b : List (List ℕ)) (r : Ordering). r ≡ by_names a b)
-total = record {
-  cmp = by_names;
-  says = λ a b r h. h;
-  flip = (lexical (lexical nat_cmp_total)).antisymm;
-  trans = (lexical (lexical nat_cmp_total)).trans;
-  alike = (lexical (lexical nat_cmp_total)).congr;
-}
+pub total : IsTotalOrder by_names
+total = lists_total (lists_total nat_cmp_total)
 
 module _ {K : Type 0} {R : K → K → Ordering} (o : IsTotalOrder R) where
   itself_by : (r : Ordering) → r ≡ ordering_reverse r → r ≡ Equal

@@ -1,10 +1,10 @@
 -- What one turn of the loops over texts keeps. Assumes nothing.
-use Rattle.std.proofs.Common.{◌≡◌, ℕ, zero, suc, ◌+◌, ◌-◌, ◌<◌, ◌≤◌, Bool, true, false, cond, not, ◌&&◌, eqb, ltb, List, [], ◌∷◌, ◌++◌, length, get_or, take, drop, set, replicate, Ordering, Less, Equal, Greater, sym, refl, ap, ◌∙◌, subst, arith}
+use Rattle.std.proofs.Common.{◌≡◌, ℕ, zero, suc, ◌+◌, ◌-◌, ◌<◌, ◌≤◌, Bool, true, false, ◌&&◌, eqb, ltb, List, [], ◌∷◌, ◌++◌, length, get_or, take, drop, set, replicate, Less, Equal, Greater, sym, refl, ap, ◌∙◌, arith}
 use native.Mathlib.Nat.{sub-zero}
-use Rattle.std.proofs.lemmas.List.{drop_more, drop_all, drop_at, take_at, drop-replicate, take_all, take_more_set, length_set, append_assoc, length-append, length-drop, length-replicate}
+use Rattle.std.proofs.lemmas.List.{drop_more, drop_all, drop_at, take_at, drop-replicate, take_all, take_more_set, length-set, append_assoc, length-append, length-drop, length-replicate}
 use Rattle.std.proofs.lemmas.Slice.{take-put_mid}
 use borrow.Rule.Slice.PartMut.{put_mid}
-use Rattle.std.proofs.lemmas.Bool.{cond-true, cond-false, eq-eqb, ne_eqb, lt-ltb, le-ltb, eqb-true}
+use Rattle.std.proofs.lemmas.Bool.{cond-true, cond-false, eq-eqb, ne_eqb, lt-ltb, le-ltb}
 use Rattle.std.specs.Ordering.{ordering_then, nat_cmp}
 use Rattle.paths.specs.Pieces.{front, later, pieces}
 use Rattle.paths.specs.Names.{split, join, last_name}
@@ -165,7 +165,7 @@ module _ (bs ys : List ℕ) (is : ys ≡ bs) (fits : length bs ≤ 120) where
 module _ (bytes ys name : List ℕ) (n : ℕ) (is : ys ≡ name) (fits : n + 1 + length name ≤ length bytes) where
   pub extended_text : take (n + 1 + length name - 0) (put_mid (n + 1) (n + 1 + length name - (n + 1)) (set bytes n 47) ys) ≡ take n bytes ++ 47 ∷ name
   extended_text =
-      let long : n + 1 ≤ length (set bytes n 47) = simp length_set (omega arith) in
+      let long : n + 1 ≤ length (set bytes n 47) = simp length-set (omega arith) in
       let end : n + 1 + length name - 0 ≡ n + 1 + length ys = omega (arith, ap length is) in
       let within : n < length bytes = omega arith in
       take-put_mid (n + 1) (n + 1 + length name - (n + 1)) (set bytes n 47) ys _ end long ∙ (λ j. take_more_set bytes n 47 within j ++ is j) ∙ append_assoc (take n bytes) (47 ∷ []) name

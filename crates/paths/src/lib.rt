@@ -1,4 +1,7 @@
 // Paths: names joined by `/`, in the order of their names.
+
+#![tactic(auto)]
+
 ghost use Rattle.std.specs.Prelude.{◌≡◌, ◌-◌, ◌≤◌, true, length, take, drop, replicate};
 ghost use Rattle.paths.specs.Names.{good};
 

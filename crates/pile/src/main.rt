@@ -1,5 +1,8 @@
 // Lists what the current folder holds: the tree of the manifest `base.mtree`. A refusal is one line
 // on standard output and ends the program with status 1; what fails outside is told on standard error.
+
+#![tactic(auto)]
+
 use anyhow::anyhow;
 use reports::report::{Report, report_manifest};
 use std::fs::File;

@@ -1,4 +1,7 @@
 // Rows in path order: a path and a value each, one way to look among them, and tables of them.
+
+#![tactic(auto)]
+
 mod bound;
 mod placed;
 mod position;

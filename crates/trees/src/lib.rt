@@ -1,4 +1,7 @@
 // Trees: what their entries are, and what they answer.
+
+#![tactic(auto)]
+
 pub mod asked;
 pub mod entry;
 pub mod fault;

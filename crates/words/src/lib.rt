@@ -1,4 +1,7 @@
 // The path word of a line, and why a manifest is refused.
+
+#![tactic(auto)]
+
 ghost use Rattle.std.specs.Prelude.{◌≡◌, cond, [], ◌∷◌, Some, None, Ok, Err, MatchOption, MatchResult};
 ghost use Rattle.paths.specs.Names.{begins};
 ghost use Rattle.paths.specs.Paths.{names};

@@ -1,8 +1,8 @@
-use Rattle.std.proofs.Common.{◌≡◌, ◌+◌, [], ◌∷◌, ◌++◌, length, take, Some, None, sym, ap, ◌∙◌, arith}
+use Rattle.std.proofs.Common.{◌≡◌, ◌+◌, [], ◌∷◌, ◌++◌, length, Some, sym, ap, ◌∙◌, arith}
 use Rattle.std.proofs.lemmas.List.{length-take-le}
 use Rattle.std.proofs.lemmas.Bool.{cond-true, cond-false, eq-eqb, ne_eqb}
 use Rattle.paths.specs.declared.PathFault.TheVariants.{BadName}
-use Rattle.paths.specs.Names.{split, join, fault_in}
+use Rattle.paths.specs.Names.{join}
 use Rattle.paths.specs.Paths.{text, names}
 use Rattle.paths.proofs.Cuts.{fault_deep, fault_bad, fault-good}
 use Rattle.paths.proofs.Joins.{child_long, child_too_long, child_short}
@@ -31,14 +31,14 @@ returns-then-depth-eq8 c =
     let ns = names c.args.self.now in
     sym (child_short ns c.args.name.now (omega arith) ∙ fault_deep (length ns) c.args.name.now [] (omega (arith, c.depth-depth.ensures.value)))
 
-pub returns-then-not-good-name : goal.returns-then-not-good-name
-returns-then-not-good-name c =
-    let e = whole-is (goal.at.returns-then-not-good-name c).Joined-self-eq0 in
+pub returns-then-not-good_name : goal.returns-then-not-good_name
+returns-then-not-good_name c =
+    let e = whole-is (goal.at.returns-then-not-good_name c).Joined-self-eq0 in
     let ns = names c.args.self.now in
-    sym (child_short ns c.args.name.now (omega arith) ∙ fault_bad (length ns) c.args.name.now [] (omega (arith, c.depth-depth.ensures.value)) (sym c.if-not-good-name.ensures) ∙ ap (λ k. Some (BadName k)) (sym c.depth-depth.ensures.value))
+    sym (child_short ns c.args.name.now (omega arith) ∙ fault_bad (length ns) c.args.name.now [] (omega (arith, c.depth-depth.ensures.value)) (sym c.if-not-good_name.ensures) ∙ ap (λ k. Some (BadName k)) (sym c.depth-depth.ensures.value))
 
 pub returns : goal.returns
 returns c =
     let e = whole-is (goal.at.returns c).Joined-self-eq0 in
     let ns = names c.args.self.now in
-    sym (child_short ns c.args.name.now (omega arith) ∙ fault-good (length ns) c.args.name.now [] (omega (arith, c.depth-depth.ensures.value)) (sym c.if-not-good-name.ensures))
+    sym (child_short ns c.args.name.now (omega arith) ∙ fault-good (length ns) c.args.name.now [] (omega (arith, c.depth-depth.ensures.value)) (sym c.if-not-good_name.ensures))

@@ -1,5 +1,5 @@
 use Rattle.std.proofs.Common.{arith}
-use Rattle.paths.proofs.Fronts.{front-here, front_on, front_out, front_fits}
+use Rattle.paths.proofs.Fronts.{front-here, front_on, front_out}
 use Rattle.paths.proofs.parts.front_len.Goals as goal
 
 pub returns-then-x-separator : goal.returns-then-x-separator

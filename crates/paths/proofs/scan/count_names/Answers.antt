@@ -16,5 +16,5 @@ pub returns : goal.returns
 returns c =
     let s = c.args.s.now in
     let h = count_out s _ c.loop-x-test.false in
-    let some = ap length (split-some s (omega (arith, false-eqb _ 0 c.if-is-empty.ensures))) in
+    let some = ap length (split-some s (omega (arith, false-eqb _ 0 c.if-is_empty.ensures))) in
     omega (arith, h, some)
