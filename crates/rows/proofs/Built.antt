@@ -1,20 +1,20 @@
 -- What maps made path by path have at each path. Assumes nothing.
-use Rattle.std.proofs.Common.{◌≡◌, ℕ, Bool, true, false, cond, ◌&&◌, ◌||◌, ◌⊎◌, List, [], ◌∷◌, is_some, Some, None, Option, Ordering, Less, Equal, Greater, sym, refl, ap, ◌∙◌, subst, inl, inr, ⊎_elim}
+use Rattle.std.proofs.Common.{◌≡◌, Bool, true, false, cond, ◌||◌, ◌⊎◌, List, [], ◌∷◌, is_some, Some, None, Option, Ordering, Less, Equal, Greater, sym, refl, ap, ◌∙◌, inl, inr, ⊎_elim}
 use Rattle.std.proofs.lemmas.Bool.{true≢false, cond-true, cond-false, or_parts, or_left, or_right, and_parts, and_from}
 use Rattle.std.specs.Cmp.{nat_cmp_total}
-use Rattle.std.specs.Cmp.Lexicographic.{lexical, lists_total}
+use Rattle.std.specs.Cmp.Lexicographic.{lists_total}
 use Rattle.std.specs.Option.{option_map}
 use Rattle.std.specs.Ordering.{is_eq, is_lt, ordering_reverse}
 use Rattle.paths.specs.Order.{by_names}
 use Rattle.paths.proofs.Laws.{itself, names-exact}
-use Rattle.rows.specs.Maps.{Names, before, first, is_at, at, has, above, ascending}
+use Rattle.rows.specs.Maps.{Names, first, is_at, at, has, above, ascending}
 use Rattle.rows.specs.Builds.{same, among, put_by, add, union, keys, row, build, set_at}
-use Rattle.rows.proofs.Orders.{is-less, before-trans}
+use Rattle.rows.proofs.Orders.{is-less}
 
 -- ---- paths
 
 pub flip : (a b : Names) → by_names a b ≡ ordering_reverse (by_names b a)
-flip = (lexical (lists_total nat_cmp_total)).flip
+flip = (lists_total (lists_total nat_cmp_total)).antisymm
 
 -- two paths are one, or the test tells them apart
 pub told : (a b : Names) → ((a ≡ b) × (same a b ≡ true)) ⊎ (same a b ≡ false)
@@ -71,7 +71,7 @@ Ascends [] = Unit {0}
 Ascends (k ∷ ks) = Above k ks × Ascends ks
 
 chains : (a b c : Names) → by_names a b ≡ Less → by_names b c ≡ Less → by_names a c ≡ Less
-chains a b c h g = (lexical (lists_total nat_cmp_total)).trans a b c h g
+chains a b c h g = (lists_total (lists_total nat_cmp_total)).trans a b c h g
 
 pub above_chain : (j k : Names) (ks : List Names) → by_names j k ≡ Less → Above k ks → Above j ks
 above_chain j k [] e h = tt

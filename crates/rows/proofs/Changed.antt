@@ -1,18 +1,15 @@
 -- What an edit makes of rows: kept by a test, with a value replaced, with rows put among them. Assumes nothing.
 use Rattle.std.proofs.Common.{◌≡◌, ◌+◌, Bool, true, false, cond, not, ◌&&◌, List, [], ◌∷◌, ◌++◌, map, length, take, drop, is_some, Some, None, Decides, Option, sym, refl, ap, ◌∙◌, inl, inr, ⊎_elim, arith}
 use Rattle.std.proofs.lemmas.List.{length-append, length-take, length-drop, take-append-drop}
-use Rattle.std.proofs.lemmas.Bool.{true≢false, and_parts, and_from, cond-true}
-use Rattle.std.specs.Cmp.{nat_cmp_total}
-use Rattle.std.specs.Cmp.Lexicographic.{lexical}
+use Rattle.std.proofs.lemmas.Bool.{true≢false, and_from, cond-true}
 use Rattle.std.specs.Option.{option_map}
 use Rattle.std.specs.Ordering.{is_eq}
 use Rattle.paths.specs.Names.{Under}
-use Rattle.paths.specs.Order.{by_bytes, by_names}
-use Rattle.paths.proofs.Laws.{itself, bytes-exact}
-use Rattle.rows.specs.Maps.{Names, before, under, first, is_at, at, above, ascending, only, without, replaced, or_else}
+use Rattle.paths.specs.Order.{by_names}
+use Rattle.rows.specs.Maps.{Names, before, under, is_at, at, above, ascending, only, without, replaced, or_else}
 use Rattle.rows.specs.Positions.{lead}
 use Rattle.rows.specs.Tables.{spliced}
-use Rattle.rows.proofs.Orders.{is-equal, same-is, is_same, not_before_self}
+use Rattle.rows.proofs.Orders.{same-is, is_same, not_before_self}
 use Rattle.rows.proofs.Built.{at-cons}
 use Rattle.rows.proofs.Unders.{under_rest, under_goes}
 use Rattle.rows.proofs.Firsts.{In, head_least, tail-ascends, at-holds}

@@ -1,19 +1,18 @@
 -- The first child behind a name is the least. Assumes nothing.
-use Rattle.std.proofs.Common.{◌≡◌, ℕ, suc, Bool, true, false, cond, not, ◌&&◌, ◌⊎◌, List, [], ◌∷◌, ◌++◌, drop, Some, None, Option, Ordering, Less, Equal, Greater, sym, refl, ap, ◌∙◌, subst, inl, inr, ⊎_elim, append-nil}
-use Rattle.std.proofs.lemmas.Bool.{true≢false, both_ways, and_parts, and_from, cond-true, cond-false, not-true, not-false, not_from_true, not_from_false}
+use Rattle.std.proofs.Common.{◌≡◌, ℕ, suc, Bool, true, false, cond, not, ◌⊎◌, List, [], ◌∷◌, ◌++◌, drop, Some, None, Option, Ordering, Less, Equal, Greater, sym, refl, ap, ◌∙◌, subst, ⊎_elim, append-nil}
+use Rattle.std.proofs.lemmas.Bool.{true≢false, both_ways, and_parts, and_from, not-true, not_from_false}
 use Rattle.std.specs.Cmp.{nat_cmp_total}
-use Rattle.std.specs.Cmp.Lexicographic.{lexical, lists_total}
+use Rattle.std.specs.Cmp.Lexicographic.{lists_total}
 use Rattle.std.specs.Option.{option_map}
 use Rattle.std.specs.Ordering.{is_lt, is_eq, is_le, ordering_reverse, ordering_then}
 use Rattle.paths.specs.Names.{parent, last_name, Under}
 use Rattle.paths.specs.Order.{by_bytes, by_names}
-use Rattle.paths.specs.Paths.{names}
-use Rattle.paths.proofs.Laws.{itself, prefix_first, between}
+use Rattle.paths.proofs.Laws.{itself, between}
 use Rattle.rows.specs.declared.row.Row.{Row}
 use Rattle.rows.specs.Maps.{Names, before, first, ascending, rooted, has, is_child, child_path}
-use Rattle.rows.specs.Rows.{row_of, rows_of}
+use Rattle.rows.specs.Rows.{rows_of}
 use Rattle.rows.specs.Positions.{behind, lead, child_head, child_at}
-use Rattle.rows.proofs.Orders.{before-le, not_before-same, not_both, le-before, same-is, is_same, shared, parent-child, last_child, as_child, no_name_least}
+use Rattle.rows.proofs.Orders.{before-le, not_before-same, not_both, same-is, is_same, shared, parent-child, as_child, no_name_least}
 use Rattle.rows.proofs.Firsts.{In, first_some, first-none, first-least, first-is, first_no, there, at-holds, in-there, child-there}
 use Rattle.rows.proofs.Places.{Clean, clean_path, clean_at, not_before-le, before_then_le, under-place, self_place}
 
@@ -66,7 +65,7 @@ module _ {V : Type 0} where
     child_late x i t =
         let d = is_child_of x t in
         let n = clean_at p (last_name x.0) [] (subst Clean d.0 (clean x i)) in
-        not_from_false (before x.0 (p ++ behind a ∷ [])) (ap (λ z. before z (p ++ behind a ∷ [])) d.0 ∙ under-place p a (last_name x.0) [] n ∙ ap is_le ((lexical nat_cmp_total).flip (last_name x.0) a) ∙ under (by_bytes a (last_name x.0)) d.1)
+        not_from_false (before x.0 (p ++ behind a ∷ [])) (ap (λ z. before z (p ++ behind a ∷ [])) d.0 ∙ under-place p a (last_name x.0) [] n ∙ ap is_le ((lists_total nat_cmp_total).antisymm (last_name x.0) a) ∙ under (by_bytes a (last_name x.0)) d.1)
 
     none_late : first (not_before (p ++ behind a ∷ [])) rs ≡ None → first (is_child p a) rs ≡ None
     none_late f = first_no (is_child p a) rs no_child where
@@ -99,7 +98,7 @@ module _ {V : Type 0} where
         above = sym (under-place p a (last_name r.0) [] (clean_at p (last_name r.0) [] (subst Clean form (clean r inside)))) ∙ sym (ap (λ z. before z (p ++ behind a ∷ [])) form) ∙ late
 
         passes : is_child p a r ≡ true
-        passes = and_from (is_eq (by_names (parent r.0) p)) (is_lt (by_bytes a (last_name r.0))) t (ap is_lt ((lexical nat_cmp_total).flip a (last_name r.0)) ∙ over (by_bytes (last_name r.0) a) above)
+        passes = and_from (is_eq (by_names (parent r.0) p)) (is_lt (by_bytes a (last_name r.0))) t (ap is_lt ((lists_total nat_cmp_total).antisymm a (last_name r.0)) ∙ over (by_bytes (last_name r.0) a) above)
 
         low : (x : Names × V) → In rs x → before x.0 r.0 ≡ true → is_child p a x ≡ false
         low x i b = go (is_child p a x) refl where

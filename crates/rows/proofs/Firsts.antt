@@ -1,11 +1,10 @@
 -- The first row that passes a test. Assumes nothing.
-use Rattle.std.proofs.Common.{◌≡◌, ℕ, Bool, true, false, cond, ◌&&◌, ◌⊎◌, List, [], ◌∷◌, ◌++◌, is_some, Some, None, Option, sym, refl, ap, ◌∙◌, subst, inl, inr, ⊎_elim, append_assoc, append-nil}
+use Rattle.std.proofs.Common.{◌≡◌, ℕ, Bool, true, false, cond, ◌⊎◌, List, [], ◌∷◌, ◌++◌, is_some, Some, None, Option, sym, refl, ap, ◌∙◌, subst, inl, inr, ⊎_elim, append_assoc, append-nil}
 use Rattle.std.proofs.lemmas.Bool.{true≢false, and_parts, cond-true, cond-false, both_ways}
 use Rattle.std.specs.Option.{option_map}
-use Rattle.paths.specs.Names.{parent, last_name, Under}
-use Rattle.paths.specs.Order.{by_bytes, by_names}
-use Rattle.rows.specs.Maps.{Names, before, first, is_at, at, has, above, ascending, rooted, is_child}
-use Rattle.rows.proofs.Orders.{before-trans, not_before_self, not_both, same-is, is_same, parent-child}
+use Rattle.paths.specs.Names.{parent}
+use Rattle.rows.specs.Maps.{Names, before, first, is_at, at, has, above, ascending, rooted}
+use Rattle.rows.proofs.Orders.{before-trans, not_before_self, same-is, is_same, parent-child}
 
 some_one : {A : Type 0} {P : Type 0} (x : A) → ◌≡◌ {A = Option A} (Some x) None → P
 some_one x e = absurd (true≢false (ap is_some e))

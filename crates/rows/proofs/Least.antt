@@ -2,7 +2,7 @@
 use Rattle.std.proofs.Common.{◌≡◌, ℕ, ◌+◌, ◌<◌, ◌≤◌, Bool, true, false, cond, ◌⊎◌, List, [], ◌∷◌, ◌++◌, is_some, Some, None, Option, Ordering, Less, Equal, Greater, sym, refl, ap, ◌∙◌, subst, inl, inr, ⊎_elim, arith}
 use Rattle.std.proofs.lemmas.Bool.{true≢false, both_ways, and_parts, and_from, and_right}
 use Rattle.std.specs.Cmp.{nat_cmp_total}
-use Rattle.std.specs.Cmp.Lexicographic.{lexical, lists_total}
+use Rattle.std.specs.Cmp.Lexicographic.{lists_total}
 use Rattle.std.specs.Option.{option_map}
 use Rattle.std.specs.Ordering.{is_lt, is_eq, ordering_reverse, ordering_then}
 use Rattle.paths.specs.Names.{parent, last_name}
@@ -18,7 +18,7 @@ abbrev pub less : List ℕ → List ℕ → Bool
 less a b = is_lt (by_bytes a b)
 
 pub less-trans : (a b c : List ℕ) → less a b ≡ true → less b c ≡ true → less a c ≡ true
-less-trans a b c h g = ap is_lt ((lexical nat_cmp_total).trans a b c (is-less _ h) (is-less _ g))
+less-trans a b c h g = ap is_lt ((lists_total nat_cmp_total).trans a b c (is-less _ h) (is-less _ g))
 
 pub not-less_self : (a : List ℕ) → less a a ≡ false
 not-less_self a = ap is_lt (itself (lists_total nat_cmp_total) a)
@@ -28,7 +28,7 @@ told_names a b = go (by_bytes a b) refl where
   go : (k : Ordering) → by_bytes a b ≡ k → (less a b ≡ true) ⊎ ((a ≡ b) ⊎ (less b a ≡ true))
   go Less e = inl (ap is_lt e)
   go Equal e = inr (inl (bytes-exact a b e))
-  go Greater e = inr (inr (ap is_lt ((lexical nat_cmp_total).flip b a ∙ ap ordering_reverse e)))
+  go Greater e = inr (inr (ap is_lt ((lists_total nat_cmp_total).antisymm b a ∙ ap ordering_reverse e)))
 
 -- the path of a child
 abbrev pub child : Names → List ℕ → Names

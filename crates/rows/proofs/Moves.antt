@@ -2,7 +2,7 @@
 use Rattle.std.proofs.Common.{◌≡◌, ℕ, ◌+◌, ◌-◌, ◌<◌, ◌≤◌, List, ◌++◌, length, get_or, take, drop, set, ap, ◌∙◌, ⊎_elim, arith, rules}
 use lib.Seq.{paste}
 use Rattle.std.specs.List.{between}
-use Rattle.std.proofs.lemmas.List.{places, same_lists, length-drop, get_or_default, get_or-set_same, get_or-set_other, length_set}
+use Rattle.std.proofs.lemmas.List.{places, same_lists, length-drop, get_or_default, get_or-set_same, get_or-set_other, length-set}
 use Rattle.std.proofs.lemmas.Bool.{cases_eq}
 use Rattle.std.proofs.lemmas.List.Edits.{paste_more}
 use Rattle.rows.specs.Moves.{opened, closed}
@@ -20,7 +20,7 @@ module _ {R : Type 0} where
       let n : length (moved xs len by m) ≡ length xs = search (rules, places) in
       let x = get_or (moved xs len by m) (m - 1) e in
       let x-is : (d : R) → x ≡ get_or xs (m - 1) d = λ d. get_or_default (moved xs len by m) (m - 1) e d (omega arith) ∙ search (rules, places) in
-      same_lists _ _ (simp length_set (search (rules, places)))
+      same_lists _ _ (simp length-set (search (rules, places)))
       (λ k d h. let v = x-is d in ⊎_elim (λ e. let s = get_or-set_same (moved xs len by m) (m - 1 + by) x d (omega arith) in grind (arith, places)) (λ ne. let s = get_or-set_other (moved xs len by m) (m - 1 + by) k x d ne in grind (arith, places)) (cases_eq k (m - 1 + by)))
 
   pub moved_all : (xs : List R) (len at : ℕ) (new : List R) → at ≤ len → len + length new ≤ length xs → paste (moved xs len (length new) at) at new (length new) ≡ opened xs len at new

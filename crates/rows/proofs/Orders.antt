@@ -1,12 +1,12 @@
 -- The order of names, as tests. Assumes nothing.
-use Rattle.std.proofs.Common.{◌≡◌, ℕ, Bool, true, false, List, [], ◌∷◌, ◌++◌, Ordering, Less, Equal, Greater, sym, refl, ap, ◌∙◌, subst, append_assoc, append-nil}
+use Rattle.std.proofs.Common.{◌≡◌, ℕ, true, List, [], ◌∷◌, ◌++◌, Ordering, Less, Equal, Greater, sym, refl, ap, ◌∙◌, subst}
 use Rattle.std.proofs.lemmas.Bool.{true≢false}
 use Rattle.std.specs.Cmp.{nat_cmp_total}
-use Rattle.std.specs.Cmp.Lexicographic.{slice_cmp, lexical, lists_total}
-use Rattle.std.specs.Ordering.{is_lt, is_eq, is_gt, is_le, ordering_reverse, ordering_then}
-use Rattle.paths.specs.Names.{parent, last_name, Under}
+use Rattle.std.specs.Cmp.Lexicographic.{lists_total}
+use Rattle.std.specs.Ordering.{is_lt, is_eq, is_le, ordering_then}
+use Rattle.paths.specs.Names.{parent, last_name}
 use Rattle.paths.specs.Order.{by_bytes, by_names}
-use Rattle.paths.proofs.Laws.{itself, names-exact, bytes-exact, prefix_first, between}
+use Rattle.paths.proofs.Laws.{itself, names-exact}
 use Rattle.rows.specs.Maps.{before}
 
 pub is-less : (k : Ordering) → is_lt k ≡ true → k ≡ Less
@@ -34,7 +34,7 @@ pub before-le : (a b : List (List ℕ)) → before a b ≡ true → is_le (by_na
 before-le a b h = lt-le _ h
 
 pub before-trans : (a b c : List (List ℕ)) → before a b ≡ true → before b c ≡ true → before a c ≡ true
-before-trans a b c h g = ap is_lt ((lexical (lexical nat_cmp_total)).trans a b c (is-less _ h) (is-less _ g))
+before-trans a b c h g = ap is_lt ((lists_total (lists_total nat_cmp_total)).trans a b c (is-less _ h) (is-less _ g))
 
 pub not_before_self : (a : List (List ℕ)) → before a a ≡ true → ⊥
 not_before_self a h = true≢false (sym h ∙ ap is_lt (itself (lists_total (lists_total nat_cmp_total)) a))

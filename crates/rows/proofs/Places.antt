@@ -1,11 +1,11 @@
 -- What comes before the place behind a name. Assumes nothing.
-use Rattle.std.proofs.Common.{◌≡◌, ℕ, suc, ◌+◌, ◌<◌, Bool, true, false, not, ◌&&◌, eqb, ltb, leb, List, [], ◌∷◌, ◌++◌, length, take, Ordering, Less, Equal, Greater, sym, refl, ap, ◌∙◌, subst, append_assoc, append-nil, arith}
+use Rattle.std.proofs.Common.{◌≡◌, ℕ, ◌+◌, ◌<◌, Bool, true, false, not, ◌&&◌, eqb, ltb, leb, List, [], ◌∷◌, ◌++◌, length, take, Ordering, Less, Equal, Greater, sym, refl, ap, ◌∙◌, subst, append_assoc, append-nil, arith}
 use Rattle.std.proofs.lemmas.List.{take_at, length-append}
 use Rattle.std.proofs.lemmas.Bool.{true≢false, both_ways, and_parts, not-true, eqb-false, cond-false, le-ltb, ne_eqb}
 use Rattle.std.specs.List.{AllByRecursion as All}
 use Rattle.std.specs.Cmp.{nat_cmp_total}
-use Rattle.std.specs.Cmp.Lexicographic.{lexical}
-use Rattle.std.specs.Ordering.{is_lt, is_eq, is_le, ordering_reverse, ordering_then, nat_cmp}
+use Rattle.std.specs.Cmp.Lexicographic.{lists_total}
+use Rattle.std.specs.Ordering.{is_lt, is_le, ordering_reverse, ordering_then, nat_cmp}
 use Rattle.paths.specs.declared.Path.{Path}
 use Rattle.paths.specs.Names.{plain, last_name, Under}
 use Rattle.paths.specs.Order.{by_bytes, by_names}
@@ -48,7 +48,7 @@ not-lt-le Equal h = refl
 not-lt-le Greater h = refl
 
 pub not_before-le : (q p : Names) → before q p ≡ false → is_le (by_names p q) ≡ true
-not_before-le q p h = ap is_le ((lexical (lexical nat_cmp_total)).flip p q) ∙ not-lt-le (by_names q p) h
+not_before-le q p h = ap is_le ((lists_total (lists_total nat_cmp_total)).antisymm p q) ∙ not-lt-le (by_names q p) h
 
 -- a < b ≤ c
 pub before_then_le : (a b c : Names) → before a b ≡ true → is_le (by_names b c) ≡ true → before a c ≡ true

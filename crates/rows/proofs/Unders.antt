@@ -2,7 +2,7 @@
 use Rattle.std.proofs.Common.{◌≡◌, ℕ, Bool, true, false, ◌&&◌, ◌||◌, ◌⊎◌, List, [], ◌∷◌, ◌++◌, map, Ordering, Less, Equal, Greater, sym, refl, ap, ◌∙◌, subst, inl, inr, ⊎_elim}
 use Rattle.std.proofs.lemmas.Bool.{true≢false, and_parts, and_from}
 use Rattle.std.specs.Cmp.{nat_cmp_total}
-use Rattle.std.specs.Cmp.Lexicographic.{lexical, lists_total}
+use Rattle.std.specs.Cmp.Lexicographic.{lists_total}
 use Rattle.std.specs.Ordering.{is_eq, ordering_reverse, ordering_then}
 use Rattle.paths.specs.Names.{prefixes, parent}
 use Rattle.paths.specs.Order.{by_bytes, by_names}
@@ -10,7 +10,6 @@ use Rattle.paths.proofs.Laws.{itself, bytes-exact}
 use Rattle.rows.specs.Maps.{Names, under}
 use Rattle.rows.specs.Builds.{same, among}
 use Rattle.rows.proofs.Orders.{is-equal, as_child}
-use Rattle.rows.proofs.Built.{same_path, same-itself}
 
 abbrev eq : List ℕ → List ℕ → Bool
 eq k n = is_eq (by_bytes k n)
@@ -27,7 +26,7 @@ is_eq_reversed Equal = refl
 is_eq_reversed Greater = refl
 
 eq_swap : (n k : List ℕ) → eq n k ≡ eq k n
-eq_swap n k = ap is_eq ((lexical nat_cmp_total).flip n k) ∙ is_eq_reversed (by_bytes k n)
+eq_swap n k = ap is_eq ((lists_total nat_cmp_total).antisymm n k) ∙ is_eq_reversed (by_bytes k n)
 
 pub under_goes : (p rest : Names) → under p (p ++ rest) ≡ true
 under_goes [] rest = refl
@@ -68,7 +67,7 @@ same-under (n ∷ p) (k ∷ q) = go (by_bytes k n) (eq n k) (eq_swap n k) (same-
   go Greater t e h = refl
 
 pub same_swap : (p q : Names) → same p q ≡ same q p
-same_swap p q = ap is_eq ((lexical (lexical nat_cmp_total)).flip q p) ∙ is_eq_reversed (by_names p q)
+same_swap p q = ap is_eq ((lists_total (lists_total nat_cmp_total)).antisymm q p) ∙ is_eq_reversed (by_names p q)
 
 among-map : (n k : List ℕ) (ks : List Names) (q : Names) → among (map (λ r. n ∷ r) ks) (k ∷ q) ≡ (eq n k && among ks q)
 among-map n k [] q = elim (eq n k) as (λ t. false ≡ (t && false)) [ true ↦ refl | false ↦ refl ]

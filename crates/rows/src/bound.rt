@@ -62,17 +62,17 @@ fn precedes(path: &Path, position: Position) -> bool
 
 // Whether the row at `i` is one of those that come before a position.
 fn row_precedes<R: Placed>(rows: &[R], i: usize, position: Position) -> bool
-    requires rises { ascending (keyed key rows.now) ≡ true }
+    requires rises { ascending (keyed R.key rows.now) ≡ true }
     requires within { i < length rows.now }
-    ensures { result ≡ nat_lt i (lead (place_of position.entry) (keyed key rows.now)) }
+    ensures { result ≡ nat_lt i (lead (place_of position.entry) (keyed R.key rows.now)) }
 {
     precedes(rows[i].path(), position)
 }
 
 // How many of the rows, which rise in path order, come before a position.
 pub(crate) fn lower_bound<R: Placed>(rows: &[R], position: Position) -> usize
-    requires { ascending (keyed key rows.now) ≡ true }
-    ensures value { result ≡ lead (place_of position.entry) (keyed key rows.now) }
+    requires { ascending (keyed R.key rows.now) ≡ true }
+    ensures value { result ≡ lead (place_of position.entry) (keyed R.key rows.now) }
     ensures within { result ≤ length rows.now }
 {
     let mut low: usize = 0;

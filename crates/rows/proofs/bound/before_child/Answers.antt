@@ -1,5 +1,5 @@
 -- Apart from `parent`, at it, or below one of its children.
-use Rattle.std.proofs.Common.{◌≡◌, length, sym, ap, ◌∙◌, arith}
+use Rattle.std.proofs.Common.{sym, ap, ◌∙◌}
 use Rattle.std.proofs.lemmas.Bool.{both_ways}
 use Rattle.std.specs.Ordering.{is_le}
 use Rattle.paths.specs.Names.{last_name}
@@ -8,17 +8,17 @@ use Rattle.paths.specs.Paths.{names}
 use Rattle.rows.proofs.Places.{apart_place, level_place, below-place, clean_path}
 use Rattle.rows.proofs.bound.before_child.Goals as goal
 
-pub returns-then-not-is-prefix-of : goal.returns-then-not-is-prefix-of
-returns-then-not-is-prefix-of c =
-    c.less.ensures ∙ apart_place (names c.args.parent.now) c.args.after.now (names c.args.path.now) (λ u. both_ways c.is-prefix-of.result c.if-not-is-prefix-of.true (c.is-prefix-of.ensures.1 u))
+pub returns-then-not-is_prefix_of : goal.returns-then-not-is_prefix_of
+returns-then-not-is_prefix_of c =
+    c.less.ensures ∙ apart_place (names c.args.parent.now) c.args.after.now (names c.args.path.now) (λ u. both_ways c.is_prefix_of.result c.if-not-is_prefix_of.true (c.is_prefix_of.ensures.1 u))
 
 pub returns-then-depth : goal.returns-then-depth
 returns-then-depth c =
-    let u = c.is-prefix-of.ensures.0 c.if-not-is-prefix-of.false in
+    let u = c.is_prefix_of.ensures.0 c.if-not-is_prefix_of.false in
     sym (level_place (names c.args.parent.now) c.args.after.now (names c.args.path.now) u (sym c.depth.ensures.value ∙ c.if-depth.true ∙ c.depth-depth.ensures.value))
 
 pub returns : goal.returns
 returns c =
-    let u = c.is-prefix-of.ensures.0 c.if-not-is-prefix-of.false in
-    c.at-most.ensures ∙ ap (λ z. is_le (by_bytes z c.args.after.now)) (c.last-name.ensures ∙ ap last_name c.prefix-child.ensures)
+    let u = c.is_prefix_of.ensures.0 c.if-not-is_prefix_of.false in
+    c.at_most.ensures ∙ ap (λ z. is_le (by_bytes z c.args.after.now)) (c.last_name.ensures ∙ ap last_name c.prefix-child.ensures)
     ∙ below-place (names c.args.parent.now) c.args.after.now (names c.args.path.now) u (clean_path c.args.path.now) (λ e. c.if-depth.false (c.depth.ensures.value ∙ e ∙ sym c.depth-depth.ensures.value)) c.depth-depth.result c.depth-depth.ensures.value

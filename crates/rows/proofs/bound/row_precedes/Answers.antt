@@ -1,5 +1,5 @@
 -- One row decides for those in front of it.
-use Rattle.std.proofs.Common.{sym, ap, ◌∙◌}
+use Rattle.std.proofs.Common.{ap, ◌∙◌}
 use Rattle.rows.specs.Maps.{before}
 use Rattle.rows.specs.Positions.{place_of}
 use Rattle.rows.proofs.Leads.{lead_test}

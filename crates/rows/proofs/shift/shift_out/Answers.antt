@@ -2,7 +2,7 @@
 use Rattle.std.proofs.Common.{◌≡◌, ◌-◌, drop, ap, ◌∙◌, arith}
 use lib.Seq.{paste}
 use Rattle.std.proofs.lemmas.List.Edits.{paste_none}
-use Rattle.std.proofs.lemmas.List.{length_set}
+use Rattle.std.proofs.lemmas.List.{length-set}
 use Rattle.rows.proofs.Moves.{closed_more}
 use Rattle.rows.proofs.shift.shift_out.Goals as goal
 
@@ -12,7 +12,7 @@ loop-j-init g c = (c.requires.wide, paste_none c.args.rows.now c.args.from (drop
 pub loop-j-preserved : goal.loop-j-preserved
 loop-j-preserved g c =
     let e = closed_more c.args.rows.now c.args.from c.args.to c.loop-j.j c.index-rows-to.result (omega arith) (omega arith) in
-    (simp length_set c.loop-j.invariant.0, rw c.loop-j.invariant.1 e)
+    (simp length-set c.loop-j.invariant.0, rw c.loop-j.invariant.1 e)
 
 pub returns : goal.returns
 returns g c =

@@ -4,13 +4,13 @@ use Rattle.rows.specs.Positions.{place_of}
 use Rattle.rows.proofs.Leads.{rises-rows, lead_of}
 use Rattle.rows.proofs.sorted.lookup.count_before.Goals as goal
 
-pub lower-bound-requires : goal.lower-bound-requires
-lower-bound-requires g c = rises-rows c.args.rows.now ∙ c.requires
+pub lower_bound-requires : goal.lower_bound-requires
+lower_bound-requires g c = rises-rows c.args.rows.now ∙ c.requires
 
 pub returns : goal.returns
 returns g c =
     let p = place_of c.args.position in
     record {
-      value = lead_of c.args.rows.now p p c.lower-bound.result c.lower-bound.ensures.value refl;
-      within = c.lower-bound.ensures.within;
+      value = lead_of c.args.rows.now p p c.lower_bound.result c.lower_bound.ensures.value refl;
+      within = c.lower_bound.ensures.within;
     }

@@ -1,5 +1,5 @@
 -- The first row behind the name, and that it is the least child if it is one.
-use Rattle.std.proofs.Common.{[], ◌∷◌, ◌++◌, length, ap, ◌∙◌, arith}
+use Rattle.std.proofs.Common.{[], ◌∷◌, ◌++◌, ap, ◌∙◌, arith}
 use Rattle.paths.specs.Paths.{names}
 use Rattle.rows.specs.Positions.{behind, lead, child_head}
 use Rattle.rows.specs.Rows.{rows_of}
@@ -12,9 +12,9 @@ returns-then-i-rows g c =
     let rs = c.args.rows.now in
     let p = names c.args.path.now in
     let a = c.args.after.now in
-    let n = c.count-before-i.ensures.value ∙ ap (λ z. lead z (rows_of rs)) c.child-after.ensures in
+    let n = c.count_before-i.ensures.value ∙ ap (λ z. lead z (rows_of rs)) c.child_after.ensures in
     record {
-      exact = rest-none (child_head p) rs c.count-before-i.result (lead (p ++ behind a ∷ []) (rows_of rs)) n (omega (arith, c.if-i-rows.true));
+      exact = rest-none (child_head p) rs c.count_before-i.result (lead (p ++ behind a ∷ []) (rows_of rs)) n (omega (arith, c.if-i-rows.true));
       least = λ h. least-child rs c.requires h p a;
     }
 
@@ -23,8 +23,8 @@ returns g c =
     let rs = c.args.rows.now in
     let p = names c.args.path.now in
     let a = c.args.after.now in
-    let n = c.count-before-i.ensures.value ∙ ap (λ z. lead z (rows_of rs)) c.child-after.ensures in
+    let n = c.count_before-i.ensures.value ∙ ap (λ z. lead z (rows_of rs)) c.child_after.ensures in
     record {
-      exact = rest-here (child_head p) rs c.count-before-i.result (lead (p ++ behind a ∷ []) (rows_of rs)) n c.index-rows-i.result (omega (arith, c.if-i-rows.false, c.count-before-i.ensures.within)) c.index-rows-i.is;
+      exact = rest-here (child_head p) rs c.count_before-i.result (lead (p ++ behind a ∷ []) (rows_of rs)) n c.index-rows-i.result (omega (arith, c.if-i-rows.false, c.count_before-i.ensures.within)) c.index-rows-i.is;
       least = λ h. least-child rs c.requires h p a;
     }

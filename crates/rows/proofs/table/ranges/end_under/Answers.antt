@@ -12,14 +12,14 @@ use Rattle.rows.proofs.table.ranges.end_under.Goals as goal
 pub loop-to-init : goal.loop-to-init
 loop-to-init g c = (omega arith, c.requires.start, under_start c.args.rows.now (names c.args.path.now) c.args.from c.requires.place)
 
-pub returns-then-not-is-prefix-of : goal.returns-then-not-is-prefix-of
-returns-then-not-is-prefix-of g c =
+pub returns-then-not-is_prefix_of : goal.returns-then-not-is_prefix_of
+returns-then-not-is_prefix_of g c =
     let rs = c.args.rows.now in
     let p = names c.args.path.now in
     let to = c.loop-to.to in
     let r = c.index-rows-to.result in
     let q = names (get_or rs to r).path in
-    let off = ap (λ x. under p (names x.path)) c.index-rows-to.is ∙ sym (same_from_decides c.is-prefix-of.result (under p q) c.is-prefix-of.ensures (under-says p q)) ∙ c.if-not-is-prefix-of.true in
+    let off = ap (λ x. under p (names x.path)) c.index-rows-to.is ∙ sym (same_from_decides c.is_prefix_of.result (under p q) c.is_prefix_of.ensures (under-says p q)) ∙ c.if-not-is_prefix_of.true in
     let le : lead p (rows_of rs) ≤ to = omega (arith, c.requires.place, c.loop-to.invariant.0) in
     record {
       rows = under_done rs p c.args.from to c.loop-to.invariant.2 (under_stop rs p to r c.loop-to-test.true c.index-rows-to.is c.requires.rises le off);
@@ -34,7 +34,7 @@ loop-to-preserved g c =
     let to = c.loop-to.to in
     let r = c.index-rows-to.result in
     let q = names (get_or rs to r).path in
-    let on = ap (λ x. under p (names x.path)) c.index-rows-to.is ∙ sym (same_from_decides c.is-prefix-of.result (under p q) c.is-prefix-of.ensures (under-says p q)) ∙ c.if-not-is-prefix-of.false in
+    let on = ap (λ x. under p (names x.path)) c.index-rows-to.is ∙ sym (same_from_decides c.is_prefix_of.result (under p q) c.is_prefix_of.ensures (under-says p q)) ∙ c.if-not-is_prefix_of.false in
     (omega arith, omega arith, c.loop-to.invariant.2 ∙ ap (λ ys. rows_of (take c.args.from rs) ++ ys) (under_step rs p to r c.loop-to-test.true c.index-rows-to.is on))
 
 pub returns : goal.returns

@@ -15,17 +15,17 @@ pub returns-then-leads : goal.returns-then-leads
 returns-then-leads g c =
     let rs = c.args.rows.now in
     let new = c.args.new.now in
-    let at = c.count-before-at.result in
-    let e = c.count-before-at.ensures.value ∙ ap (λ p. lead p (rows_of rs)) c.at.ensures in
+    let at = c.count_before-at.result in
+    let e = c.count_before-at.ensures.value ∙ ap (λ p. lead p (rows_of rs)) c.at.ensures in
     let test = splice_test rs new c.requires c.if-n-eq0.false c.index-new-0.result at e (sym c.rising.ensures ∙ c.if-not-rising.false) c.index-new-n.result c.index-new-n.is in
     record {
       rows = spliced-is rs new c.requires c.if-n-eq0.false c.index-new-0.result at e;
       rises = test ∙ sym c.leads.ensures ∙ c.if-leads.true;
-      within = c.count-before-at.ensures.within;
+      within = c.count_before-at.ensures.within;
     }
 
 pub returns-else-leads : goal.returns-else-leads
 returns-else-leads g c =
     let rs = c.args.rows.now in
-    let e = c.count-before-at.ensures.value ∙ ap (λ p. lead p (rows_of rs)) c.at.ensures in
-    splice_test rs c.args.new.now c.requires c.if-n-eq0.false c.index-new-0.result c.count-before-at.result e (sym c.rising.ensures ∙ c.if-not-rising.false) c.index-new-n.result c.index-new-n.is ∙ sym c.leads.ensures ∙ c.if-leads.false
+    let e = c.count_before-at.ensures.value ∙ ap (λ p. lead p (rows_of rs)) c.at.ensures in
+    splice_test rs c.args.new.now c.requires c.if-n-eq0.false c.index-new-0.result c.count_before-at.result e (sym c.rising.ensures ∙ c.if-not-rising.false) c.index-new-n.result c.index-new-n.is ∙ sym c.leads.ensures ∙ c.if-leads.false
