@@ -1,10 +1,10 @@
 -- What a tree's `look` and `next` say of a good path. Assumes nothing.
-use Rattle.std.proofs.Common.{◌≡◌, ℕ, ◌≤◌, Bool, true, false, not, leb, List, [], ◌∷◌, ◌++◌, length, take, drop, is_some, Some, None, Ok, Err, Option, Result, sym, refl, ap, ◌∙◌, subst, ⊎_elim, zero-add, arith}
+use Rattle.std.proofs.Common.{◌≡◌, ℕ, ◌≤◌, Bool, true, false, not, leb, List, [], ◌∷◌, ◌++◌, length, take, drop, is_some, Some, None, Ok, Err, Option, Result, sym, refl, ap, ◌∙◌, subst, zero-add, arith}
 use Rattle.std.proofs.lemmas.List.{take_at}
 use Rattle.std.proofs.lemmas.Bool.{true≢false, both_ways, and_parts, not-true, leb-true}
 use Rattle.std.specs.Option.{option_map, ok_or}
 use Rattle.std.specs.Ordering.{is_lt, is_eq}
-use Rattle.paths.specs.Names.{split, join, fault, good, judge, judged, fault_in, parent, last_name, Under}
+use Rattle.paths.specs.Names.{split, join, fault, good, judge, judged, fault_in, parent, last_name}
 use Rattle.paths.specs.Order.{by_bytes, by_names}
 use Rattle.paths.specs.Paths.{child_fault, text, names}
 use Rattle.paths.proofs.Joins.{good_parts, fault-append, fault_parts, name_parts, child_short}
@@ -12,7 +12,7 @@ use Rattle.trees.specs.declared.entry.Entry.{Entry}
 use Rattle.trees.specs.declared.entry.Entry.TheVariants.{File, Dir}
 use Rattle.trees.specs.declared.fault.Fault.{Fault}
 use Rattle.paths.specs.declared.Path.{Path}
-use Rattle.rows.specs.Maps.{before, first, at, has, ascending, is_child, child_path}
+use Rattle.rows.specs.Maps.{first, at, ascending, is_child, child_path}
 use Rattle.trees.specs.Entries.{Entries, Row, is_dir, closed, fine}
 use Rattle.trees.specs.Answers.{lost, look_of, look_in, next_of, next_in, next_at, counted, put_name}
 use Rattle.rows.proofs.Orders.{same-is, as_child, no_name_least}

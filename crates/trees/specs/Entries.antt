@@ -1,5 +1,5 @@
 -- What a tree means: a finite map from good paths to entries. Assumes nothing.
-use Rattle.std.specs.Prelude.{◌≡◌, ℕ, Bool, true, false, not, ◌&&◌, List, [], ◌∷◌, length, is_some, Some, None, Option, nat_le, nat_lt}
+use Rattle.std.specs.Prelude.{◌≡◌, Bool, true, false, not, ◌&&◌, List, [], ◌∷◌, length, is_some, Some, None, Option, nat_le, nat_lt}
 use Rattle.paths.specs.Names.{join, fault_in, parent}
 use Rattle.rows.specs.Maps.{Names, at, ascending}
 use Rattle.trees.specs.declared.entry.Entry.{Entry}

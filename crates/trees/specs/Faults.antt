@@ -1,5 +1,5 @@
 -- The numbers of a fault of a tree or a buffer, and how it is printed. Assumes nothing.
-use Rattle.std.specs.Prelude.{ℕ, List, [], ◌∷◌, ◌++◌, decimal}
+use Rattle.std.specs.Prelude.{ℕ, List, ◌∷◌, ◌++◌, decimal}
 use Rattle.paths.specs.Faults.{fields as path-fields}
 use Rattle.trees.specs.declared.fault.Fault.{Fault}
 use Rattle.trees.specs.declared.fault.Fault.TheVariants.{Path, Missing, NotDirectory, IsDirectory, Exists, NotEmpty, Root, OutOfRange, NoRoom, ShortBuffer}

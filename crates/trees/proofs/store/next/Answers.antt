@@ -11,6 +11,6 @@ returns-else-buffer-lt40 g c =
     let rs = (g.S.Store.stored c.args.store.now).rows in
     let b = c.args.buffer.now in
     let e = sym c.entry.ensures ∙ c.in-Some.is ∙ ap Some c.in-Dir.is in
-    let s = stepped rs c.args.path.now c.args.after.now (length b) (names c.in-ok-path.path) c.in-Dir.field-0 c.in-ok-path.ensures.0 e c.if-buffer-lt40.false in
-    let n = ap (λ o. Ok (option_map last_name o)) c.child-after.ensures ∙ sym s in
-    record { exact = ap Ok c.put-last.ensures.exact ∙ ap counted n; written = c.put-last.ensures.written ∙ ap (λ z. put_name z b) n }
+    let s = stepped rs c.args.path.now c.args.after.now (length b) (names c.in_ok-path.path) c.in-Dir.field-0 c.in_ok-path.ensures.0 e c.if-buffer-lt40.false in
+    let n = ap (λ o. Ok (option_map last_name o)) c.child_after.ensures ∙ sym s in
+    record { exact = ap Ok c.put_last.ensures.exact ∙ ap counted n; written = c.put_last.ensures.written ∙ ap (λ z. put_name z b) n }
