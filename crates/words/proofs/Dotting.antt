@@ -1,10 +1,8 @@
 -- What stands before the path in a word. Assumes nothing.
-use Rattle.std.proofs.Common.{◌≡◌, ℕ, ◌<◌, ◌≤◌, Bool, true, false, cond, ◌&&◌, eqb, ltb, leb, List, [], ◌∷◌, length, take, drop, Some, None, Ok, Err, Option, Result, sym, refl, ap, ◌∙◌, subst, arith}
-use Rattle.std.proofs.lemmas.Bool.{cond-true, cond-false, lt-ltb, lt-leb, and_right, true≢false}
-use Rattle.paths.specs.declared.PathFault.{PathFault}
+use Rattle.std.proofs.Common.{◌≡◌, ℕ, ◌<◌, Bool, true, false, cond, ◌&&◌, eqb, ltb, leb, List, [], ◌∷◌, length, take, drop, Some, None, Err, sym, refl, ap, ◌∙◌, arith}
+use Rattle.std.proofs.lemmas.Bool.{cond-true, cond-false, lt-ltb, lt-leb, and_right}
 use Rattle.paths.specs.declared.PathFault.TheVariants.{TooLong}
-use Rattle.paths.specs.Names.{split, fault_in, fault, judge, judged, same, begins}
-use Rattle.words.specs.declared.fault.Cause.{Cause}
+use Rattle.paths.specs.Names.{split, fault_in, judge, judged, same, begins}
 use Rattle.words.specs.declared.fault.Cause.TheVariants.{Word, Path}
 use Rattle.words.specs.Words.{undotted, held, judged_word, long_fault}
 

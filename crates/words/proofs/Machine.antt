@@ -4,9 +4,8 @@ use Rattle.std.proofs.lemmas.List.{at_drop_more, at_drop_all, take_all, take_mor
 use Rattle.std.specs.Option.{option_map}
 use Rattle.words.specs.declared.escape.State.{State}
 use Rattle.words.specs.declared.escape.State.TheVariants.{Plain, Backslash, OneDigit, TwoDigits}
-use Rattle.words.specs.declared.escape.Step.{Step}
 use Rattle.words.specs.declared.escape.Step.TheVariants.{To, Out, Bad}
-use Rattle.words.specs.Escapes.{Sound, step_of, onward, finished, undone, unescaped}
+use Rattle.words.specs.Escapes.{step_of, onward, finished, undone, unescaped}
 
 -- s is done, and the rest of the word is to be read from a state
 abbrev pub after : List ℕ → State → List ℕ → Option (List ℕ)

@@ -1,5 +1,5 @@
 -- One step after another, each of which may refuse. Assumes nothing.
-use Rattle.std.specs.Prelude.{Bool, cond, Some, None, Ok, Err, Option, Result}
+use Rattle.std.specs.Prelude.{Some, None, Ok, Err, Option, Result}
 
 -- what the next step makes of a result; the first refusal stays
 abbrev pub and_then : {A B E : Type 0} → Result A E → (A → Result B E) → Result B E

@@ -1,5 +1,5 @@
 -- The path word of a line. Assumes nothing.
-use Rattle.std.specs.Prelude.{ℕ, Bool, cond, ◌&&◌, List, [], ◌∷◌, length, drop, Some, None, Ok, Err, Option, Result, nat_lt}
+use Rattle.std.specs.Prelude.{ℕ, cond, ◌&&◌, List, [], ◌∷◌, length, drop, Some, None, Ok, Err, Option, Result, nat_lt}
 use Rattle.paths.specs.declared.PathFault.{PathFault}
 use Rattle.paths.specs.declared.PathFault.TheVariants.{TooLong}
 use Rattle.paths.specs.Names.{judge, same, begins}

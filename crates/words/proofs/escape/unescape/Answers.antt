@@ -1,7 +1,6 @@
-use Rattle.std.proofs.Common.{◌≡◌, ℕ, ◌+◌, ◌≤◌, List, [], ◌∷◌, ◌++◌, length, take, drop, Some, sym, refl, ap, ◌∙◌, subst, append-nil, arith}
+use Rattle.std.proofs.Common.{◌≡◌, ◌+◌, [], ◌∷◌, ◌++◌, length, take, drop, Some, sym, refl, ap, ◌∙◌, subst, append-nil, arith}
 use Rattle.std.proofs.lemmas.List.{length_push}
 use Rattle.std.specs.Option.{option_map}
-use Rattle.words.specs.declared.escape.State.{State}
 use Rattle.words.specs.Escapes.{Sound, finished}
 use Rattle.words.proofs.Machine.{cut_short, after, after_start, after_to, after_out, after_bad, after_end, held_more, held_full}
 use Rattle.words.proofs.escape.unescape.Goals as goal
@@ -10,8 +9,8 @@ use Rattle.words.proofs.escape.unescape.Goals.{in-To, in-Out, then-len-lt122, el
 pub loop-byte-init : goal.loop-byte-init
 loop-byte-init c = (tt, omega arith, ([], after_start c.args.word.now, refl, refl))
 
-pub take-byte-requires : goal.take-byte-requires
-take-byte-requires c = c.loop-byte.invariant.0
+pub take_byte-requires : goal.take_byte-requires
+take_byte-requires c = c.loop-byte.invariant.0
 
 pub returns-in-Bad : goal.returns-in-Bad
 returns-in-Bad c =
@@ -25,7 +24,7 @@ loop-byte-preserved c =
     let w = c.args.word.now in
     let k = c.loop-byte.byte-index in
     let wide : length c.loop-byte.out ≡ 122 = c.loop-byte.auto.out ∙ c.requires in
-    elim c.match-take-byte.branch [
+    elim c.match-take_byte.branch [
       | in-To way ↦ (
         subst Sound (sym way.state-is) way.in-To.ensures.sound,
         omega (arith, way.len-is, c.loop-byte.invariant.1),
@@ -60,8 +59,8 @@ returns-in-Plain c =
     let e = i.1 ∙ after_end s c.loop-byte.state c.args.word.now c.loop-byte.byte-index c.loop-byte-test.false ∙ ap (λ t. option_map (λ l. s ++ l) (finished t)) c.in-Plain.is ∙ ap Some (append-nil s) in
     (s, e, i.2, i.3)
 
-pub returns-in-default : goal.returns-in-default
-returns-in-default c =
+pub returns-in_default : goal.returns-in_default
+returns-in_default c =
     let i = c.loop-byte.invariant.2 in
     let s = i.0 in
-    i.1 ∙ after_end s c.loop-byte.state c.args.word.now c.loop-byte.byte-index c.loop-byte-test.false ∙ cut_short s c.loop-byte.state c.in-default.not-Plain
+    i.1 ∙ after_end s c.loop-byte.state c.args.word.now c.loop-byte.byte-index c.loop-byte-test.false ∙ cut_short s c.loop-byte.state c.in_default.not-Plain
