@@ -1,5 +1,5 @@
 -- The first row is the root's. Assumes nothing.
-use Rattle.std.proofs.Common.{◌≡◌, ℕ, true, false, ◌⊎◌, List, [], ◌∷◌, is_some, Some, None, Ok, Err, Option, sym, refl, ap, inl, ⊎_elim, arith}
+use Rattle.std.proofs.Common.{◌≡◌, ℕ, true, false, List, [], ◌∷◌, is_some, Some, None, Ok, Err, Option, sym, refl, ap, inl, ⊎_elim, arith}
 use Rattle.std.proofs.lemmas.Bool.{true≢false, and_parts, both_ways}
 use Rattle.std.specs.Option.{ok_or}
 use Rattle.trees.specs.declared.entry.Entry.{Entry}

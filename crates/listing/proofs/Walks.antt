@@ -1,13 +1,13 @@
 -- How far a listing has come. Assumes nothing.
-use Rattle.std.proofs.Common.{◌≡◌, ℕ, ◌+◌, ◌-◌, ◌<◌, ◌≤◌, true, List, [], ◌∷◌, ◌++◌, length, take, drop, Some, None, Option, sym, refl, ap, ◌∙◌, inl, append_assoc, arith, take-append-drop}
+use Rattle.std.proofs.Common.{◌≡◌, ℕ, ◌+◌, ◌<◌, ◌≤◌, true, List, [], ◌∷◌, ◌++◌, length, take, drop, Some, None, Option, sym, refl, ap, ◌∙◌, inl, append_assoc, arith, take-append-drop}
 use Rattle.std.proofs.lemmas.List.{length-append, length-drop, drop-drop, drop_at, take_at, length-take-le}
 use Rattle.std.proofs.lemmas.Bool.{and_parts, cond-true}
 use Rattle.std.specs.Option.{option_map}
-use Rattle.rows.specs.Maps.{first, is_at, is_after, at, has, ascending, path_after}
+use Rattle.rows.specs.Maps.{first, is_at, is_after, has, ascending, path_after}
 use Rattle.trees.specs.Entries.{Entries, Row, closed}
 use Rattle.listing.specs.Walks.{path_first}
 use Rattle.listing.proofs.Rest.{from, from_at, from_row}
-use Rattle.listing.specs.Lines.{line, lined, line_at, lines, listing}
+use Rattle.listing.specs.Lines.{lined, line_at, lines, listing}
 use Rattle.rows.proofs.Orders.{is_same}
 use Rattle.rows.proofs.Firsts.{first_some, at-holds, there, in-there}
 

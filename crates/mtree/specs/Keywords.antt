@@ -1,5 +1,5 @@
 -- The keywords of a line. Assumes nothing.
-use Rattle.std.specs.Prelude.{ℕ, ◌+◌, Bool, cond, ◌&&◌, List, [], ◌∷◌, length, drop, Some, None, Ok, Err, Option, Result, nat_lt}
+use Rattle.std.specs.Prelude.{ℕ, ◌+◌, cond, ◌&&◌, List, [], ◌∷◌, length, drop, Some, None, Ok, Err, Option, Result, nat_lt}
 use Rattle.paths.specs.Names.{same}
 use Rattle.paths.specs.Pieces.{front}
 use Rattle.trees.specs.declared.entry.Entry.{Entry}

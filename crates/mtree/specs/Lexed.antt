@@ -1,6 +1,6 @@
 -- What a line is taken apart into. Assumes nothing.
-use Rattle.std.specs.Prelude.{◌≡◌, ℕ, suc, ◌+◌, ◌^◌, ◌<◌, Bool, true, false, cond, List, [], ◌∷◌, length, drop, nat_lt}
-use Rattle.paths.specs.Pieces.{front, later, pieces}
+use Rattle.std.specs.Prelude.{ℕ, ◌+◌, ◌^◌, ◌<◌, cond, List, [], ◌∷◌, length, drop, nat_lt}
+use Rattle.paths.specs.Pieces.{front, pieces}
 use Rattle.mtree.specs.declared.lexer.Stage.{Stage}
 use Rattle.mtree.specs.declared.lexer.Stage.TheVariants.{Start, Middle, End as Ended}
 use Rattle.mtree.specs.declared.lexer.Lexer.{Lexer}

@@ -6,4 +6,4 @@ use Rattle.listing.proofs.writing.line_at.Goals as goal
 pub returns-in-Ok : goal.returns-in-Ok
 returns-in-Ok g c =
     let en = g.T.Tree.entries c.args.tree.now in
-    c.line-of.ensures ∙ saw en c.args.path.now c.args.path.now.sound c.in-Ok.entry (c.in-Ok.ensures ∙ ap (look_of en.rows) c.as-bytes.ensures)
+    c.line_of.ensures ∙ saw en c.args.path.now c.args.path.now.sound c.in-Ok.entry (c.in-Ok.ensures ∙ ap (look_of en.rows) c.as_bytes.ensures)

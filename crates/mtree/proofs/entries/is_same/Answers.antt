@@ -1,4 +1,4 @@
-use Rattle.std.proofs.Common.{◌≡◌, ℕ, Bool, true, false, List, sym, refl}
+use Rattle.std.proofs.Common.{ℕ, List, sym, refl}
 use Rattle.std.proofs.lemmas.Slice.Eq.{IsBytesEq, compares_Decides, slice_eq-Decides}
 use Rattle.paths.specs.Names.{same}
 use Rattle.mtree.proofs.Deciding.{agree}

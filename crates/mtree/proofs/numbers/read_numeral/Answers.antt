@@ -8,17 +8,17 @@ fits c =
     let more = digit-fits c.loop-digit.number c.args.base c.in-Some.value c.loop-digit.digit-index c.loop-digit.invariant.0 c.requires.base low in
     digits_fit _ c.loop-digit.digit-index more (omega (arith, c.requires.few, c.loop-digit-test.true))
 
-pub returns-in-default : goal.returns-in-default
-returns-in-default c = record {
-  value = sym (c.loop-digit.invariant.1 ∙ numeral_bad c.args.base c.loop-digit.number c.args.digits.now c.loop-digit.digit-index c.loop-digit-test.true (sym c.in-default.ensures));
+pub returns-in_default : goal.returns-in_default
+returns-in_default c = record {
+  value = sym (c.loop-digit.invariant.1 ∙ numeral_bad c.args.base c.loop-digit.number c.args.digits.now c.loop-digit.digit-index c.loop-digit-test.true (sym c.in_default.ensures));
   small = tt;
 }
 
-pub overflow-mul-number : goal.overflow-mul-number
-overflow-mul-number c = let f = fits c in omega arith
+pub overflow_mul-number : goal.overflow_mul-number
+overflow_mul-number c = let f = fits c in omega arith
 
-pub overflow-add-number : goal.overflow-add-number
-overflow-add-number c = let f = fits c in omega arith
+pub overflow_add-number : goal.overflow_add-number
+overflow_add-number c = let f = fits c in omega arith
 
 pub loop-digit-preserved : goal.loop-digit-preserved
 loop-digit-preserved c =

@@ -8,8 +8,8 @@ use Rattle.listing.proofs.line.Line.+add_decimal.Goals as goal
 long : (n : ℕ) (ds : List ℕ) (d : ℕ) → decimal n ≡ ds ++ d ∷ [] → length (decimal n) ≡ length ds + 1
 long n ds d e = ap length e ∙ length-append ds (d ∷ [])
 
-pub add-decimal-requires : goal.add-decimal-requires
-add-decimal-requires t c =
+pub add_decimal-requires : goal.add_decimal-requires
+add_decimal-requires t c =
     let n = c.args.n in
     let h = long n (decimal (n / 10)) (48 + n % 10) (decimal_step n c.if-n-ge10.true c.ranges.n.fits) in
     (search rules, omega arith)
@@ -18,7 +18,7 @@ pub add-requires : goal.add-requires
 add-requires t c =
     let n = c.args.n in
     let h = long n (decimal (n / 10)) (48 + n % 10) (decimal_step n c.if-n-ge10.true c.ranges.n.fits) in
-    omega (arith, c.add-decimal.ensures.long)
+    omega (arith, c.add_decimal.ensures.long)
 
 pub add-requires-else-n-ge10 : goal.add-requires-else-n-ge10
 add-requires-else-n-ge10 t c = omega (arith, ap length (decimal_digit c.args.n c.if-n-ge10.false))
@@ -29,8 +29,8 @@ returns-then-n-ge10 t c =
     let e = decimal_step n c.if-n-ge10.true c.ranges.n.fits in
     let h = long n (decimal (n / 10)) (48 + n % 10) e in
     record {
-      text = two (shown c.args.self.now) (decimal (n / 10)) ((48 + n % 10) ∷ []) _ _ c.add-decimal.ensures.text c.add.ensures.text ∙ ap (λ z. shown c.args.self.now ++ z) (sym e);
-      long = omega (arith, c.add-decimal.ensures.long, c.add.ensures.long);
+      text = two (shown c.args.self.now) (decimal (n / 10)) ((48 + n % 10) ∷ []) _ _ c.add_decimal.ensures.text c.add.ensures.text ∙ ap (λ z. shown c.args.self.now ++ z) (sym e);
+      long = omega (arith, c.add_decimal.ensures.long, c.add.ensures.long);
     }
 
 pub returns-else-n-ge10 : goal.returns-else-n-ge10

@@ -1,4 +1,4 @@
 use Rattle.listing.proofs.line.Line.+add_decimal.Given as goal
 
-abbrev pub decreases-add-decimal : goal.decreases-add-decimal
-decreases-add-decimal l = l.n
+abbrev pub decreases-add_decimal : goal.decreases-add_decimal
+decreases-add_decimal l = l.n

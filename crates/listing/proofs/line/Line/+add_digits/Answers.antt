@@ -1,4 +1,4 @@
-use Rattle.std.proofs.Common.{◌+◌, ◌-◌, ◌/◌, [], ◌∷◌, ◌++◌, sym, ap, ◌∙◌, append-nil, arith}
+use Rattle.std.proofs.Common.{◌-◌, ◌/◌, [], ◌∷◌, ◌++◌, sym, ap, ◌∙◌, append-nil, arith}
 use Rattle.listing.specs.Lines.{digits}
 use Rattle.listing.specs.Shown.{shown}
 use Rattle.listing.proofs.Texts.{two, digits-none, digits_more}
@@ -11,8 +11,8 @@ returns-then-count-gt0 t c =
     let k = c.args.count in
     let old = shown c.args.self.now in
     record {
-      text = two old (digits b (k - 1) (n / b)) (c.digit-of.result ∷ []) _ _ c.add-digits.ensures.text c.add.ensures.text ∙ ap (λ z. old ++ (digits b (k - 1) (n / b) ++ z ∷ [])) c.digit-of.ensures ∙ ap (λ z. old ++ z) (sym (digits_more b k n c.if-count-gt0.true));
-      long = omega (arith, c.add-digits.ensures.long, c.add.ensures.long);
+      text = two old (digits b (k - 1) (n / b)) (c.digit_of.result ∷ []) _ _ c.add_digits.ensures.text c.add.ensures.text ∙ ap (λ z. old ++ (digits b (k - 1) (n / b) ++ z ∷ [])) c.digit_of.ensures ∙ ap (λ z. old ++ z) (sym (digits_more b k n c.if-count-gt0.true));
+      long = omega (arith, c.add_digits.ensures.long, c.add.ensures.long);
     }
 
 pub returns-else-count-gt0 : goal.returns-else-count-gt0

@@ -1,4 +1,4 @@
 use Rattle.listing.proofs.line.Line.+add_digits.Given as goal
 
-abbrev pub decreases-add-digits : goal.decreases-add-digits
-decreases-add-digits l = l.count
+abbrev pub decreases-add_digits : goal.decreases-add_digits
+decreases-add_digits l = l.count

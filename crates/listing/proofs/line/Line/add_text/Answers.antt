@@ -10,8 +10,8 @@ loop-b-preserved c =
     let i = c.loop-b.b-index in
     let s = c.args.s.now in
     let old = shown c.args.self.now in (
-      c.add-byte.ensures.text ∙ ap (λ z. z ++ escape (get_or s i 0)) c.loop-b.invariant.0 ∙ append_assoc old (escaped (take i s)) (escape (get_or s i 0)) ∙ ap (λ z. old ++ z) (sym (escaped_more s i c.loop-b-test.true)),
-      omega (arith, c.add-byte.ensures.long, c.loop-b.invariant.1),
+      c.add_byte.ensures.text ∙ ap (λ z. z ++ escape (get_or s i 0)) c.loop-b.invariant.0 ∙ append_assoc old (escaped (take i s)) (escape (get_or s i 0)) ∙ ap (λ z. old ++ z) (sym (escaped_more s i c.loop-b-test.true)),
+      omega (arith, c.add_byte.ensures.long, c.loop-b.invariant.1),
     )
 
 pub returns : goal.returns
