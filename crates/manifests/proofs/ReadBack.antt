@@ -5,7 +5,7 @@ use Rattle.paths.specs.Names.{join, parent, begins}
 use Rattle.paths.specs.Pieces.{pieces}
 use Rattle.rows.specs.Maps.{at, ascending}
 use Rattle.trees.specs.Entries.{Row, is_dir, in_range, fine, closed}
-use Rattle.listing.specs.Lines.{dotted, keywords, line, lines, listing}
+use Rattle.listing.specs.Lines.{dotted, keywords, lines, listing}
 use Rattle.words.specs.declared.fault.Cause.TheVariants.{Header}
 use Rattle.words.specs.Steps.{and_then}
 use Rattle.manifests.specs.Manifests.{row_of_line, fault_at, positioned, rows_from, header}

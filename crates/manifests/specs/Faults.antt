@@ -1,5 +1,5 @@
 -- How a manifest's fault is printed. Assumes nothing.
-use Rattle.std.specs.Prelude.{ℕ, List, [], ◌∷◌, ◌++◌, decimal}
+use Rattle.std.specs.Prelude.{ℕ, List, ◌∷◌, ◌++◌, decimal}
 use Rattle.words.specs.Faults.{cause_fields}
 use Rattle.manifests.specs.declared.fault.ManifestFault.{ManifestFault}
 

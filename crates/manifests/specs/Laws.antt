@@ -1,5 +1,5 @@
 -- The laws of manifests, as statements. Assumes nothing.
-use Rattle.std.specs.Prelude.{◌≡◌, ℕ, ◌≤◌, true, ◌&&◌, List, length, Ok, Err, Result}
+use Rattle.std.specs.Prelude.{◌≡◌, ℕ, ◌≤◌, true, ◌&&◌, List, length, Ok}
 use Rattle.rows.specs.Maps.{ascending}
 use Rattle.trees.specs.Entries.{Row, Entries, closed}
 use Rattle.listing.specs.Lines.{listing}

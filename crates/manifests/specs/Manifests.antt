@@ -1,5 +1,5 @@
 -- What the text of a manifest says. Assumes nothing.
-use Rattle.std.specs.Prelude.{ℕ, ◌+◌, min, Bool, true, cond, ◌&&◌, List, [], ◌∷◌, ◌++◌, length, drop, Some, None, Ok, Err, Option, Result, ◌==◌, nat_le, nat_lt}
+use Rattle.std.specs.Prelude.{ℕ, ◌+◌, min, Bool, true, cond, ◌&&◌, List, [], ◌∷◌, ◌++◌, length, drop, Some, Ok, Err, Result, ◌==◌, nat_le, nat_lt}
 use Rattle.paths.specs.Names.{parent, begins}
 use Rattle.paths.specs.Pieces.{front, later, pieces}
 use Rattle.rows.specs.Maps.{Names, at, before}

@@ -1,4 +1,4 @@
-use Rattle.std.proofs.Common.{◌≡◌, sym, ap, ◌∙◌}
+use Rattle.std.proofs.Common.{sym, ap, ◌∙◌}
 use Rattle.std.specs.Option.{option_map}
 use Rattle.paths.specs.Paths.{names}
 use Rattle.rows.specs.Rows.{row_of}
@@ -15,5 +15,5 @@ pub returns-in-Some-last : goal.returns-in-Some-last
 returns-in-Some-last c =
     let p = names c.args.path.now in
     let row = c.in-Some-last.row in
-    c.is-parent-dir.ensures ∙ ap (parent_dir (row_of row)) c.in-Some.ensures.1
+    c.is_parent_dir.ensures ∙ ap (parent_dir (row_of row)) c.in-Some.ensures.1
     ∙ sym (ap (λ o. by_last (option_map row_of o) p c.args.entry) c.in-Some-last.is ∙ by_last-some (row_of row) p c.args.entry c.in-Some.ensures.0)

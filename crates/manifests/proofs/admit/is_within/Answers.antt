@@ -1,4 +1,3 @@
-use Rattle.std.proofs.Common.{◌≡◌, Bool, true, false, Decides, sym, refl}
 use Rattle.paths.specs.Paths.{names}
 use Rattle.manifests.specs.Lasts.{within}
 use Rattle.manifests.proofs.LastRow.{within-says}
@@ -9,4 +8,4 @@ pub returns : goal.returns
 returns c =
     let p = names c.args.path.now in
     let q = names c.args.other.now in
-    agree c.is-prefix-of.result (within p q) (λ x. x) (λ x. x) c.is-prefix-of.ensures (within-says p q)
+    agree c.is_prefix_of.result (within p q) (λ x. x) (λ x. x) c.is_prefix_of.ensures (within-says p q)

@@ -1,4 +1,4 @@
-use Rattle.std.proofs.Common.{◌≡◌, ◌+◌, ◌-◌, ◌<◌, [], ◌∷◌, ◌++◌, length, take, drop, Ok, Err, sym, refl, ap, ◌∙◌, arith}
+use Rattle.std.proofs.Common.{◌≡◌, ◌+◌, ◌-◌, ◌<◌, [], ◌∷◌, ◌++◌, length, take, drop, Ok, Err, sym, ap, ◌∙◌, arith}
 use Rattle.std.proofs.lemmas.List.{take_rest, drop-drop, length-drop}
 use Rattle.std.proofs.lemmas.Result.{err_from_is_err_and, MatchResult-at_ok, MatchResult-at_err}
 use Rattle.paths.proofs.Fronts.{cut-front}
@@ -16,7 +16,7 @@ returns-then-end-gt0 c =
     let rows = rows_of c.args.rows.now in
     let s = take (length text - at) (drop at text) in
     ap (λ l. rows_from c.args.limit at rows (pieces 10 l)) (sym (take_rest text at))
-    ∙ rows_cut c.args.limit at rows s (sym c.front-len-end.ensures.value ∙ c.if-end-rest.true) (omega (arith, c.if-end-rest.true, c.if-end-gt0.true))
+    ∙ rows_cut c.args.limit at rows s (sym c.front_len-end.ensures.value ∙ c.if-end-rest.true) (omega (arith, c.if-end-rest.true, c.if-end-gt0.true))
 
 pub returns-then-end-rest : goal.returns-then-end-rest
 returns-then-end-rest c =
@@ -25,21 +25,21 @@ returns-then-end-rest c =
     let rows = rows_of c.args.rows.now in
     let s = take (length text - at) (drop at text) in
     ap (λ l. rows_from c.args.limit at rows (pieces 10 l)) (sym (take_rest text at))
-    ∙ rows_end c.args.limit at rows s (sym c.front-len-end.ensures.value ∙ c.if-end-rest.true) (omega (arith, c.if-end-rest.true, c.if-end-gt0.false))
+    ∙ rows_end c.args.limit at rows s (sym c.front_len-end.ensures.value ∙ c.if-end-rest.true) (omega (arith, c.if-end-rest.true, c.if-end-gt0.false))
 
-pub returns-in-err-row : goal.returns-in-err-row
-returns-in-err-row c =
-    let p = err_from_is_err_and c.from-residual.result c.from-residual.ensures.1 in
+pub returns-in_err-row : goal.returns-in_err-row
+returns-in_err-row c =
+    let p = err_from_is_err_and c.from_residual.result c.from_residual.ensures.1 in
     let text = c.args.text.now in
     let at = c.args.at in
     let rows = rows_of c.args.rows.now in
     let s = take (length text - at) (drop at text) in
-    let is = c.front-len-end.ensures.value in
-    let fault = c.in-err-row.field-0.0 in
-    let said = c.in-err-row.ensures in
-    let short : length (front 10 s) < length s = omega (arith, is, c.front-len-end.ensures.within, c.if-end-rest.false) in
-    let refused : row_of_line c.args.limit rows (take (c.front-len-end.result - 0) s) ≡ Err fault.cause = MatchResult-at_err _ _ fault.cause said.1 c.read-line.ensures in
-    let line = ap (row_of_line c.args.limit rows) (sym (cut-front 10 s c.front-len-end.result is)) ∙ refused in
+    let is = c.front_len-end.ensures.value in
+    let fault = c.in_err-row.field-0.0 in
+    let said = c.in_err-row.ensures in
+    let short : length (front 10 s) < length s = omega (arith, is, c.front_len-end.ensures.within, c.if-end-rest.false) in
+    let refused : row_of_line c.args.limit rows (take (c.front_len-end.result - 0) s) ≡ Err fault.cause = MatchResult-at_err _ _ fault.cause said.1 c.read_line.ensures in
+    let line = ap (row_of_line c.args.limit rows) (sym (cut-front 10 s c.front_len-end.result is)) ∙ refused in
     rw (p.1, p.2)
     (ap (λ l. rows_from c.args.limit at rows (pieces 10 l)) (sym (take_rest text at))
     ∙ rows_stop c.args.limit at rows s short fault.cause line
@@ -51,12 +51,12 @@ returns c =
     let at = c.args.at in
     let rows = rows_of c.args.rows.now in
     let s = take (length text - at) (drop at text) in
-    let e = c.front-len-end.result in
-    let is = c.front-len-end.ensures.value in
-    let r = row_of c.in-ok-row.row in
-    let short : length (front 10 s) < length s = omega (arith, is, c.front-len-end.ensures.within, c.if-end-rest.false) in
+    let e = c.front_len-end.result in
+    let is = c.front_len-end.ensures.value in
+    let r = row_of c.in_ok-row.row in
+    let short : length (front 10 s) < length s = omega (arith, is, c.front_len-end.ensures.within, c.if-end-rest.false) in
     let long : length s ≡ length text - at = ap length (take_rest text at) ∙ length-drop at text in
-    let taken : row_of_line c.args.limit rows (take (e - 0) s) ≡ Ok r = MatchResult-at_ok _ _ c.in-ok-row.row c.in-ok-row.ensures c.read-line.ensures in
+    let taken : row_of_line c.args.limit rows (take (e - 0) s) ≡ Ok r = MatchResult-at_ok _ _ c.in_ok-row.row c.in_ok-row.ensures c.read_line.ensures in
     let line = ap (row_of_line c.args.limit rows) (sym (cut-front 10 s e is)) ∙ taken in
     let step : at + (length (front 10 s) + 1) ≡ at + e + 1 = omega (arith, is) in
     let rest : drop (length (front 10 s) + 1) s ≡ drop (at + e + 1) text =

@@ -8,16 +8,16 @@ use Rattle.manifests.specs.Manifests.{placed}
 use Rattle.manifests.proofs.ReadLines.{row_line}
 use Rattle.manifests.proofs.reader.read_line.Goals as goal
 
-pub returns-in-err-row : goal.returns-in-err-row
-returns-in-err-row c =
-    let p = err_from_is_err_and c.from-residual.result c.from-residual.ensures.1 in
+pub returns-in_err-row : goal.returns-in_err-row
+returns-in_err-row c =
+    let p = err_from_is_err_and c.from_residual.result c.from_residual.ensures.1 in
     let rows = rows_of c.args.rows.now in
     rw (p.1, p.2)
-    (row_line c.args.limit rows c.args.line.now ∙ ap (λ x. and_then x (λ r. placed c.args.limit rows r.0 r.1)) c.in-err-row.ensures)
+    (row_line c.args.limit rows c.args.line.now ∙ ap (λ x. and_then x (λ r. placed c.args.limit rows r.0 r.1)) c.in_err-row.ensures)
 
 pub returns : goal.returns
 returns c =
     let rows = rows_of c.args.rows.now in
-    let said = row_line c.args.limit rows c.args.line.now ∙ ap (λ x. and_then x (λ r. placed c.args.limit rows r.0 r.1)) c.in-ok-row.ensures in
+    let said = row_line c.args.limit rows c.args.line.now ∙ ap (λ x. and_then x (λ r. placed c.args.limit rows r.0 r.1)) c.in_ok-row.ensures in
     let F : Result Row Cause → Type 0 = λ x. MatchResult c.place.result (λ row. x ≡ Ok (row_of row)) (λ e. x ≡ Err e) in
     subst F (sym said) c.place.ensures
