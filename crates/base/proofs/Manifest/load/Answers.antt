@@ -1,10 +1,10 @@
-use Rattle.std.proofs.Common.{◌≡◌, length, sym, ap, subst}
+use Rattle.std.proofs.Common.{length, sym, subst}
 use Rattle.rows.specs.Rows.{rows_of}
 use Rattle.manifests.specs.Lasts.{Built}
 use Rattle.manifests.proofs.BuiltRows.{indexed-built}
 use Rattle.base.proofs.Manifest.load.Goals as goal
 
-pub invariant-of-self : goal.invariant-of-self
-invariant-of-self c =
-    let said = c.in-ok-rows.ensures in
-    (subst Built (sym said.1) (indexed-built (length c.args.rows.now) c.args.text.now (rows_of c.args.rows.now) said.0), tt)
+pub invariant_of-self : goal.invariant_of-self
+invariant_of-self c =
+    let said = c.in_ok-rows.ensures in
+    record { built = subst Built (sym said.1) (indexed-built (length c.args.rows.now) c.args.text.now (rows_of c.args.rows.now) said.0) }

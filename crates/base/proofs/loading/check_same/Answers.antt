@@ -12,22 +12,22 @@ use Rattle.base.specs.Loads.{Refused}
 use Rattle.base.proofs.SameRows.{rows_same}
 use Rattle.base.proofs.loading.check_same.Goals as goal
 
-pub returns-then-not-same-rows : goal.returns-then-not-same-rows
-returns-then-not-same-rows c =
-    let n = c.in-ok-count.count in
+pub returns-then-not-same_rows : goal.returns-then-not-same_rows
+returns-then-not-same_rows c =
+    let n = c.in_ok-count.count in
     let table = c.index.new.rows in
     let given = rows_of c.args.rows.now in
-    let said = c.in-ok-count.ensures.1 in
+    let said = c.in_ok-count.ensures.1 in
     let F : Result (List Row) ManifestFault → Type 0 = λ x. Refused given x (fault_at 0 OtherRows) in
     let cut : take (n - 0) table ≡ take n table = ap (λ k. take k table) (sub-zero n) in
-    subst F (sym said) (refl, λ e. false≢true (c.if-not-same-rows.ensures.1 (cut ∙ rows_same (take n table) c.args.rows.now e)))
+    subst F (sym said) (refl, λ e. false≢true (c.if-not-same_rows.ensures.1 (cut ∙ rows_same (take n table) c.args.rows.now e)))
 
 pub returns : goal.returns
 returns c =
-    let n = c.in-ok-count.count in
+    let n = c.in_ok-count.count in
     let table = c.index.new.rows in
-    let said = c.in-ok-count.ensures.1 in
-    let same : take n table ≡ c.args.rows.now = ap (λ k. take k table) (sym (sub-zero n)) ∙ c.if-not-same-rows.ensures.0 refl in
+    let said = c.in_ok-count.ensures.1 in
+    let same : take n table ≡ c.args.rows.now = ap (λ k. take k table) (sym (sub-zero n)) ∙ c.if-not-same_rows.ensures.0 refl in
     let rows = rows_of c.args.rows.now in
     let whole = said ∙ ap (λ l. Ok (rows_of l)) same in
     let built = indexed-built (length c.args.table.now) c.args.text.now rows whole in

@@ -1,4 +1,4 @@
-use Rattle.std.proofs.Common.{◌≡◌, ◌<◌, ◌≤◌, true, length, get_or, take, sym, refl, ap, ◌∙◌, arith}
+use Rattle.std.proofs.Common.{◌≡◌, ◌<◌, ◌≤◌, length, sym, refl, ◌∙◌, arith}
 use Rattle.std.proofs.lemmas.List.{take_all, take_more_same, get_or_default}
 use Rattle.base.proofs.loading.same_rows.Goals as goal
 
@@ -10,7 +10,7 @@ loop-i-preserved c =
     let x = c.index-a-i.result in
     let y = c.index-b-i.result in
     let in_b : i < length b = omega (arith, c.if-a-b.false, c.loop-i-test.true) in
-    let same : x ≡ y = c.if-not-same-row.ensures.0 refl in
+    let same : x ≡ y = c.if-not-same_row.ensures.0 refl in
     take_more_same a b i x c.loop-i-test.true in_b c.loop-i.invariant (sym c.index-a-i.is ∙ same ∙ c.index-b-i.is ∙ get_or_default b i y x in_b)
 
 pub returns : goal.returns

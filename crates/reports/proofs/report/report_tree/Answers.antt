@@ -8,15 +8,15 @@ use Rattle.reports.proofs.report.report_tree.Goals as goal
 
 pub returns-in-Ok : goal.returns-in-Ok
 returns-in-Ok g c =
-    let buffer = c.in-ok-buffer.buffer in
+    let buffer = c.in_ok-buffer.buffer in
     let new = c.list.new.buffer in
-    let lent = c.as-mut-slice.ensures in
+    let lent = c.as_mut_slice.ensures in
     let told = c.in-Ok.ensures in
-    let many = lent.len ∙ c.in-ok-buffer.ensures.len in
+    let many = lent.len ∙ c.in_ok-buffer.ensures.len in
     let is = with_items_is buffer new (c.list.auto.buffer ∙ lent.len) in
-    listed (listing (g.T.Tree.entries c.args.tree.now).rows) c.as-mut-slice.result.now new (vec_items (with_items buffer new)) (vec_items c.truncate.new.self) 65536 c.in-Ok.len many told.answer told.after is c.truncate.ensures.items
+    listed (listing (g.T.Tree.entries c.args.tree.now).rows) c.as_mut_slice.result.now new (vec_items (with_items buffer new)) (vec_items c.truncate.new.self) 65536 c.in-Ok.len many told.answer told.after is c.truncate.ensures.items
 
 pub returns-in-Err : goal.returns-in-Err
 returns-in-Err g c =
-    let many = c.as-mut-slice.ensures.len ∙ c.in-ok-buffer.ensures.len in
-    unlisted (g.T.Tree.entries c.args.tree.now).rows (length c.as-mut-slice.result.now) c.in-Err.fault c.refuse.result many c.in-Err.ensures.answer c.refuse.ensures
+    let many = c.as_mut_slice.ensures.len ∙ c.in_ok-buffer.ensures.len in
+    unlisted (g.T.Tree.entries c.args.tree.now).rows (length c.as_mut_slice.result.now) c.in-Err.fault c.refuse.result many c.in-Err.ensures.answer c.refuse.ensures

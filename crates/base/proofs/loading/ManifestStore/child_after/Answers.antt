@@ -1,4 +1,3 @@
-use Rattle.std.proofs.Common.{◌&&◌}
 use Rattle.std.proofs.lemmas.Bool.{and_parts}
 use Rattle.rows.specs.Maps.{ascending}
 use Rattle.rows.specs.Sorts.{kept}
@@ -9,4 +8,4 @@ use Rattle.base.proofs.loading.ManifestStore.child_after.Goals as goal
 pub returns : goal.returns
 returns c =
     let rows = kept c.args.self.now.rows in
-    c.child-after.ensures.least (closed-rooted rows rows (and_parts (ascending rows) (closed rows rows) c.args.self.now.built).1)
+    c.child_after.ensures.least (closed-rooted rows rows (and_parts (ascending rows) (closed rows rows) c.args.self.now.built).1)
