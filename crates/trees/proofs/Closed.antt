@@ -1,14 +1,25 @@
 -- Rows that are closed: each path is good, and its parent is a directory. Assumes nothing.
-use Rattle.std.proofs.Common.{◌≡◌, true, List, ◌∷◌, is_some, Some, None, Option, refl}
+use Rattle.std.proofs.Common.{◌≡◌, true, List, [], ◌∷◌, ◌&&◌, is_some, Some, None, Option, sym, refl, ap, ◌∙◌}
 use Rattle.paths.specs.Names.{parent}
-use Rattle.rows.specs.Maps.{Names, at, has, rooted}
+use Rattle.rows.specs.Maps.{Names, at, has, ascending, rooted}
 use Rattle.rows.proofs.Firsts.{there}
 use Rattle.trees.specs.declared.entry.Entry.{Entry}
-use Rattle.trees.specs.Entries.{Row, is_dir, in_range, fine, closed}
-use Rattle.trees.proofs.Grown.{Sound, grown_head, grown-rooted, sound-at}
+use Rattle.trees.specs.Entries.{Row, is_dir, in_range, fine, grown, closed}
+use Rattle.trees.proofs.Grown.{Sound, grown_head, grown_by, grown-rooted, sound-at}
+
+-- it is what `grown` says of entries
+pub closed-grown : (all rs : List Row) → closed all rs ≡ grown in_range is_dir all rs
+closed-grown all [] = refl
+closed-grown all (r ∷ rs) = ap (λ b. ((fine r.0 && in_range r.1) && is_dir (at all (parent r.0))) && b) (closed-grown all rs)
 
 pub closed_head : (all : List Row) (r : Row) (rs : List Row) → closed all (r ∷ rs) ≡ true → Sound in_range is_dir all r × (closed all rs ≡ true)
-closed_head = grown_head in_range is_dir
+closed_head all r rs h =
+    let p = grown_head in_range is_dir all r rs (sym (closed-grown all (r ∷ rs)) ∙ h) in
+    (p.0, closed-grown all rs ∙ p.1)
+
+-- said of each path, it holds of all rows
+pub closed_by : (rs : List Row) → ascending rs ≡ true → ((p : Names) (e : Entry) → at rs p ≡ Some e → Sound in_range is_dir rs (p, e)) → closed rs rs ≡ true
+closed_by rs up f = closed-grown rs rs ∙ grown_by in_range is_dir rs up f
 
 pub dir-there : (o : Option Entry) → is_dir o ≡ true → is_some o ≡ true
 dir-there None h = h
@@ -16,11 +27,11 @@ dir-there (Some e) h = refl
 
 -- so each row's parent has a row
 pub closed-rooted : (all rs : List Row) → closed all rs ≡ true → rooted all rs ≡ true
-closed-rooted = grown-rooted in_range is_dir dir-there
+closed-rooted all rs h = grown-rooted in_range is_dir dir-there all rs (sym (closed-grown all rs) ∙ h)
 
 module _ (rs : List Row) (c : closed rs rs ≡ true) where
   pub is-sound : (p : Names) (e : Entry) → at rs p ≡ Some e → Sound in_range is_dir rs (p, e)
-  is-sound p e h = sound-at in_range is_dir rs c p e h
+  is-sound p e h = sound-at in_range is_dir rs (sym (closed-grown rs rs) ∙ c) p e h
 
   pub is-fine : (p : Names) → has rs p ≡ true → fine p ≡ true
   is-fine p h = let d = there rs p h in (is-sound p d.0 d.1).good

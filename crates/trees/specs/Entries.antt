@@ -32,8 +32,10 @@ abbrev pub grown : {V : Type 0} → (V → Bool) → (Option V → Bool) → Lis
 grown passes dir all [] = true
 grown passes dir all (r ∷ rs) = ((fine r.0 && passes r.1) && dir (at all (parent r.0))) && grown passes dir all rs
 
+-- each path is good, each entry in range, and each parent a directory; the root is its own parent
 abbrev pub closed : List Row → List Row → Bool
-closed all rs = grown in_range is_dir all rs
+closed all [] = true
+closed all (r ∷ rs) = ((fine r.0 && in_range r.1) && is_dir (at all (parent r.0))) && closed all rs
 
 pub record Entries : Type 0 where
   pub rows : List Row
