@@ -1,5 +1,5 @@
 -- What a granted edit leaves is a tree again. Assumes nothing.
-use Rattle.std.proofs.Common.{◌≡◌, ℕ, Bool, true, false, cond, ◌&&◌, ltb, leb, ◌⊎◌, List, is_some, Some, None, sym, refl, ap, ◌∙◌, subst, ⊎_elim}
+use Rattle.std.proofs.Common.{◌≡◌, ℕ, Bool, true, false, cond, ◌&&◌, ltb, leb, List, is_some, Some, None, sym, refl, ap, ◌∙◌, subst, ⊎_elim}
 use Rattle.std.proofs.lemmas.Bool.{true≢false, both_ways, and_parts, and_from, cond-true, cond-false}
 use Rattle.paths.specs.Names.{parent}
 use Rattle.rows.specs.Maps.{Names, under, at, has, ascending}

@@ -1,9 +1,9 @@
 -- Rows in which one path got a value. Assumes nothing.
-use Rattle.std.proofs.Common.{◌≡◌, ℕ, suc, ◌+◌, ◌-◌, ◌≤◌, Bool, true, false, cond, leb, ◌⊎◌, List, [], ◌∷◌, ◌++◌, length, take, drop, is_some, Some, None, Option, Ordering, Less, Equal, Greater, sym, refl, ap, ◌∙◌, subst, ⊎_elim, arith}
+use Rattle.std.proofs.Common.{◌≡◌, ℕ, suc, ◌+◌, ◌-◌, ◌≤◌, Bool, true, false, cond, leb, List, [], ◌∷◌, ◌++◌, length, take, drop, is_some, Some, None, Option, Ordering, Less, Equal, Greater, sym, refl, ap, ◌∙◌, subst, ⊎_elim, arith}
 use Rattle.std.proofs.lemmas.List.{length-map}
 use Rattle.std.proofs.lemmas.Bool.{true≢false, and_from, or_parts, cond-true, cond-false, le-leb}
 use Rattle.std.specs.Cmp.{nat_cmp_total}
-use Rattle.std.specs.Cmp.Lexicographic.{lexical, lists_total}
+use Rattle.std.specs.Cmp.Lexicographic.{lists_total}
 use Rattle.std.specs.Option.{option_map}
 use Rattle.std.specs.Ordering.{is_lt, is_eq, ordering_reverse}
 use Rattle.paths.specs.Order.{by_names}
@@ -52,7 +52,7 @@ module _ {V : Type 0} where
     keys-spliced [] h = refl
     keys-spliced (r ∷ rs) h =
         let o = or_parts (same p r.0) (among (keys rs) p) h in
-        let flip = (lexical (lists_total nat_cmp_total)).flip r.0 p in
+        let flip = (lists_total (lists_total nat_cmp_total)).antisymm r.0 p in
         let K : Ordering → List Names = λ k. keys (take (cond (is_lt k) (suc (lead p rs)) 0) (r ∷ rs) ++ (((p, v) ∷ []) ++ drop (cond (is_lt k) (suc (lead p rs)) 0) (r ∷ rs))) in
         ap K flip ∙ go (by_names p r.0) (sym (ap is_eq flip) ∙ o.0) (keys-spliced rs o.1) where
           go : (k : Ordering) → is_eq (ordering_reverse k) ≡ false → keys (spliced ((p, v) ∷ []) rs) ≡ add (keys rs) p

@@ -5,7 +5,6 @@ ghost use Rattle.rows.specs.Builds.{set_at};
 ghost use Rattle.rows.specs.Tables.{listed};
 ghost use Rattle.edits.specs.Edits.{has_child, refused_at, edited};
 ghost use Rattle.flat.specs.Rooms.{is_tree, room_of, need_at};
-ghost use borrow.Author.Rules;
 ghost use Rattle.std.proofs.Common.{arith};
 
 use crate::Flat;
@@ -77,7 +76,7 @@ impl Editable for Flat {
 
     ghost needs = { λ t p. need_at (listed t.rows) p };
 
-    ghost few = { first_of (Prim.search Needs.needs, Prim.grind (arith, Self.row.coded.inj)) };
+    ghost few = { λ t p. Prim.grind arith };
 
     fn room(&self) -> usize {
         self.rows_left()

@@ -1,5 +1,5 @@
 -- A layer has at most 192 rows. Assumes nothing.
-use Rattle.std.proofs.Common.{◌≡◌, ◌≤◌, length, take, arith}
+use Rattle.std.proofs.Common.{◌≤◌, length, take, arith}
 use Rattle.std.proofs.lemmas.List.{length-map, length-take}
 use Rattle.rows.specs.Rows.{row_of}
 use Rattle.layers.specs.declared.layer.Layer.{Layer}

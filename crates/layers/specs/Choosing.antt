@@ -1,5 +1,5 @@
 -- How the child that is seen is chosen. Assumes nothing.
-use Rattle.std.specs.Prelude.{Bool, true, false, not, is_some, Some, None, Option}
+use Rattle.std.specs.Prelude.{Bool, false, not, is_some, Some, None, Option}
 use Rattle.rows.specs.Maps.{Names, before}
 use Rattle.marks.specs.declared.mark.Mark.{Mark}
 use Rattle.marks.specs.Marks.{entry_of}

@@ -14,7 +14,7 @@ use Rattle.trees.proofs.Closed.{dir-there}
 use Rattle.trees.proofs.Grown.{Sound, sound-at, grown_by, dir-above}
 use Rattle.edits.specs.Edits.{is_root}
 use Rattle.marks.specs.declared.mark.Mark.{Mark}
-use Rattle.marks.specs.declared.mark.Mark.TheVariants.{File, Dir}
+use Rattle.marks.specs.declared.mark.Mark.TheVariants.{Dir}
 use Rattle.marks.specs.Marks.{MarkRow, stops, holds, ranged, cut, unless, see, merged, sound, layered}
 use Rattle.marks.specs.Edits.{lifted, written}
 use Rattle.marks.proofs.Cuts.{above_alike}

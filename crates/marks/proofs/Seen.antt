@@ -151,4 +151,4 @@ module _ (m : List MarkRow) (e : List Row) (lm : layered m ≡ true) (le : (asce
 
 -- behind a row of the layer there are fewer
 pub fewer_ahead : (m : List MarkRow) (p : Names) (a : List ℕ) (r : Names) → child_path m p a ≡ Some r → ahead m p (last_name r) < ahead m p a
-fewer_ahead m p a r h = least.fewer-ahead m p a r h
+fewer_ahead m p a r h = least.fewer_ahead m p a r h

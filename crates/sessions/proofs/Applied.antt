@@ -1,11 +1,11 @@
 -- An edit that is granted: what mark it writes, and that it may. Assumes nothing.
-use Rattle.std.proofs.Common.{◌≡◌, ℕ, ◌+◌, ◌≤◌, Bool, true, false, ◌&&◌, List, length, is_some, Some, None, Option, sym, refl, ap, ◌∙◌, subst, arith}
+use Rattle.std.proofs.Common.{◌≡◌, ◌+◌, ◌≤◌, true, ◌&&◌, List, length, is_some, Some, None, Option, sym, refl, ap, ◌∙◌, arith}
 use Rattle.std.proofs.lemmas.Bool.{true≢false}
 use Rattle.rows.specs.Maps.{Names, at, ascending}
 use Rattle.trees.specs.Entries.{Row, closed, fine}
 use Rattle.edits.specs.declared.action.Action.{Action}
 use Rattle.edits.specs.declared.action.Action.TheVariants.{Put, Mkdir, Chmod, Remove}
-use Rattle.edits.specs.Edits.{refused_at, removes}
+use Rattle.edits.specs.Edits.{refused_at}
 use Rattle.edits.proofs.Granted.{granted-room}
 use Rattle.marks.specs.declared.mark.Mark.{Mark}
 use Rattle.marks.specs.Marks.{MarkRow, merged, layered}

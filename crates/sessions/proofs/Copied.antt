@@ -1,19 +1,19 @@
 -- The rows that a copy-up adds, put among those that are there. Assumes nothing.
-use Rattle.std.proofs.Common.{◌≡◌, ℕ, ◌+◌, ◌<◌, ◌≤◌, Bool, true, false, cond, ◌&&◌, leb, ◌⊎◌, List, [], ◌∷◌, ◌++◌, length, take, drop, set, is_some, Some, None, Option, sym, refl, ap, ◌∙◌, subst, inl, inr, ⊎_elim, append_assoc, append-nil, arith}
+use Rattle.std.proofs.Common.{◌≡◌, ℕ, ◌+◌, ◌<◌, ◌≤◌, Bool, true, false, cond, leb, List, [], ◌∷◌, ◌++◌, length, take, drop, set, is_some, Some, None, Option, sym, refl, ap, ◌∙◌, subst, inl, inr, ⊎_elim, append_assoc, append-nil, arith}
 use mathlib.Core.List.{map-append}
-use Rattle.std.proofs.lemmas.List.{take_more_set, take-append-drop, drop_all, length_set}
-use Rattle.std.proofs.lemmas.Bool.{true≢false, and_from, and_parts, cond-true, cond-false, le-leb, cases_Bool}
+use Rattle.std.proofs.lemmas.List.{take_more_set, take-append-drop, drop_all, length-set}
+use Rattle.std.proofs.lemmas.Bool.{true≢false, and_from, cond-true, cond-false, le-leb, cases_Bool}
 use Rattle.std.specs.Option.{option_map}
 use Rattle.paths.specs.Names.{prefixes}
 use Rattle.paths.specs.Paths.{names}
 use Rattle.paths.proofs.Joins.{prefixes_long}
 use Rattle.rows.specs.declared.row.Row.{Row as Stored}
 use Rattle.rows.specs.Rows.{row_of, rows_of}
-use Rattle.rows.specs.Maps.{Names, before, at, has, ascending, under, replaced, or_else}
-use Rattle.rows.specs.Builds.{same, among, row, build}
+use Rattle.rows.specs.Maps.{Names, at, has, ascending, under, replaced, or_else}
+use Rattle.rows.specs.Builds.{same, row, build}
 use Rattle.rows.specs.Tables.{spliced, splices}
 use Rattle.rows.proofs.Firsts.{In, holds_at, in-there, prefix_there, head_least}
-use Rattle.rows.proofs.Built.{at-built, ascending-build, same_rows, same-itself, told, same_path}
+use Rattle.rows.proofs.Built.{at-built, ascending-build, same_rows, told, same_path}
 use Rattle.rows.proofs.Unders.{under_goes, under-itself, under_rest, among-prefixes, comparable, same_swap}
 use Rattle.rows.proofs.Changed.{at-replaced, ascending-replaced, at-spliced, length-spliced}
 use Rattle.rows.proofs.Ranges.{under_late}
@@ -183,7 +183,7 @@ module _ (x : Mark) (m : List MarkRow) (e : List Row) (p : Names) (k n : ℕ) (r
   pub fill_more : k < length p + 1 → n < 9 → (r : Stored Mark) → names r.path ≡ take k p → fresh_mark x m e p (take k p) ≡ Some r.value → Filled x m e p (k + 1) (n + 1) (set rows n r)
   fill_more h l r q y = record {
     few = omega (arith, f.few);
-    wide = length_set rows n r ∙ f.wide;
+    wide = length-set rows n r ∙ f.wide;
     whole =
         ap (λ z. rows_of z ++ left) (take_more_set rows n r (omega (arith, l, f.wide)))
         ∙ ap (λ z. z ++ left) (map-append row_of (take n rows) (r ∷ []))

@@ -1,5 +1,5 @@
 -- An edit of a session, refused or granted. Assumes nothing.
-use Rattle.std.proofs.Common.{◌≡◌, ℕ, ◌+◌, ◌-◌, ◌≤◌, Bool, true, false, not, ◌&&◌, List, length, is_some, Some, None, Ok, Err, Option, Result, sym, refl, ap, ◌∙◌, subst, arith}
+use Rattle.std.proofs.Common.{◌≡◌, ℕ, ◌≤◌, Bool, true, false, not, ◌&&◌, List, length, is_some, Some, None, Ok, Err, Option, Result, sym, refl, ap, ◌∙◌, subst, arith}
 use Rattle.std.proofs.lemmas.Bool.{true≢false}
 use Rattle.paths.specs.declared.PathFault.{PathFault}
 use Rattle.paths.specs.Names.{split, fault, judged, judge}
@@ -7,7 +7,7 @@ use Rattle.rows.specs.Maps.{Names, ascending}
 use Rattle.trees.specs.declared.fault.Fault.{Fault}
 use Rattle.trees.specs.Entries.{Row, closed, fine}
 use Rattle.edits.specs.declared.action.Action.{Action}
-use Rattle.edits.specs.Edits.{refused_at, edited, answered, unless_refused, Outcome}
+use Rattle.edits.specs.Edits.{refused_at, answered, unless_refused, Outcome}
 use Rattle.edits.proofs.Belows.{good-fine}
 use Rattle.edits.proofs.Granted.{granted-room}
 use Rattle.edits.proofs.Outcomes.{bad_refusal, good-refusal, refused-outcome, granted-outcome}

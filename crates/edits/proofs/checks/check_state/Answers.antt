@@ -7,7 +7,7 @@ use Rattle.edits.proofs.checks.check_state.Goals as goal
 
 pub returns-in-Ok : goal.returns-in-Ok
 returns-in-Ok g c =
-    c.check-room.ensures
+    c.check_room.ensures
     ∙ answered_next (place_fault (g.S.Store.stored c.args.store.now).rows (names c.args.path.now) c.args.action) (refuse_if (ltb c.args.room c.args.need) (NoRoom c.args.need)) _ c.in-Ok.ensures
 
 pub returns-in-Err : goal.returns-in-Err

@@ -34,8 +34,8 @@ set-requires c =
       fits = granted-room rows (room_of rows) (need_at rows (names x)) (names x) a c.requires;
     }
 
-pub take-out-requires : goal.take-out-requires
-take-out-requires c =
+pub take_out-requires : goal.take_out-requires
+take_out-requires c =
     let rows = listed c.args.self.now.rows in
     let x = c.args.path.now in
     let a = c.args.action in
@@ -54,4 +54,4 @@ returns-in-Some c =
 
 pub returns-in-None : goal.returns-in-None
 returns-in-None c =
-    made (listed c.args.self.now.rows) (listed c.take-out.new.self.rows) c.args.path.now c.args.action c.entry.result None c.entry.ensures c.in-None.ensures c.take-out.ensures
+    made (listed c.args.self.now.rows) (listed c.take_out.new.self.rows) c.args.path.now c.args.action c.entry.result None c.entry.ensures c.in-None.ensures c.take_out.ensures

@@ -15,10 +15,10 @@ gone old new p t none e =
     let b = and_parts (ascending old) (closed old old) t in
     e ∙ sym (set_none old b.1 p none b.0)
 
-pub invariant-of-self : goal.invariant-of-self
-invariant-of-self c =
-    let made = gone (listed c.args.self.now.rows) (listed c.remove-under.new.self) (names c.args.path.now) c.args.self.now.built c.requires.bare c.remove-under.ensures in
-    (subst (λ rs. is_tree rs ≡ true) (sym made) c.requires.grows, tt)
+pub invariant_of-self : goal.invariant_of-self
+invariant_of-self c =
+    let made = gone (listed c.args.self.now.rows) (listed c.remove_under.new.self) (names c.args.path.now) c.args.self.now.built c.requires.bare c.remove_under.ensures in
+    record { built = subst (λ rs. is_tree rs ≡ true) (sym made) c.requires.grows }
 
 pub returns : goal.returns
-returns c = gone (listed c.args.self.now.rows) (listed c.remove-under.new.self) (names c.args.path.now) c.args.self.now.built c.requires.bare c.remove-under.ensures
+returns c = gone (listed c.args.self.now.rows) (listed c.remove_under.new.self) (names c.args.path.now) c.args.self.now.built c.requires.bare c.remove_under.ensures

@@ -18,4 +18,4 @@ least rows sorted p a o t e h =
 
 pub returns : goal.returns
 returns c =
-    least (listed c.args.self.now.rows) (kept c.sorted.result) (names c.args.path.now) c.args.after.now (option_map names c.child-after.result) c.args.self.now.built c.sorted.ensures c.child-after.ensures.least
+    least (listed c.args.self.now.rows) (kept c.sorted.result) (names c.args.path.now) c.args.after.now (option_map names c.child_after.result) c.args.self.now.built c.sorted.ensures c.child_after.ensures.least

@@ -25,31 +25,31 @@ refused old s a r f e h = subst (FlatOutcome old old s a) (sym e) (refused-outco
 asked : (old : List Row) (room goal : ℕ) (p : Names) (a : Action) → room ≡ room_of old → goal ≡ need_at old p → refused_at old room goal p a ≡ refused_at old (room_of old) (need_at old p) p a
 asked old room goal p a e f = ap (λ n. refused_at old n goal p a) e ∙ ap (λ n. refused_at old (room_of old) n p a) f
 
-pub returns-in-err-path : goal.returns-in-err-path
-returns-in-err-path c =
+pub returns-in_err-path : goal.returns-in_err-path
+returns-in_err-path c =
     let old = listed c.args.self.now.rows in
     let s = c.args.path.now in
     let a = c.args.action in
-    let e = err_from_is_err_and c.from-residual.result c.from-residual.ensures.1 in
-    refused old s a c.from-residual.result e.0 e.1 (bad_refusal old (room_of old) (need_at old) s a c.in-err-path.field-0.0 c.in-err-path.ensures ∙ ap Some (sym e.2))
+    let e = err_from_is_err_and c.from_residual.result c.from_residual.ensures.1 in
+    refused old s a c.from_residual.result e.0 e.1 (bad_refusal old (room_of old) (need_at old) s a c.in_err-path.field-0.0 c.in_err-path.ensures ∙ ap Some (sym e.2))
 
-pub returns-in-err-check : goal.returns-in-err-check
-returns-in-err-check c =
+pub returns-in_err-check : goal.returns-in_err-check
+returns-in_err-check c =
     let old = listed c.args.self.now.rows in
     let s = c.args.path.now in
     let a = c.args.action in
-    let p = names c.in-ok-path.path in
-    let e = err_from_is_err_and c.from-residual-in-err-check.result c.from-residual-in-err-check.ensures.1 in
-    let told = sym (asked old c.rows-left.result c.need-at.result p a c.rows-left.ensures c.need-at.ensures) ∙ answered-some (refused_at old c.rows-left.result c.need-at.result p a) c.in-err-check.field-0.0 c.in-err-check.ensures in
-    refused old s a c.from-residual-in-err-check.result e.0 e.1 (good-refusal old (room_of old) (need_at old) s a p c.in-ok-path.ensures.0 ∙ (told ∙ ap Some (sym e.2)))
+    let p = names c.in_ok-path.path in
+    let e = err_from_is_err_and c.from_residual-in_err-check.result c.from_residual-in_err-check.ensures.1 in
+    let told = sym (asked old c.rows_left.result c.need_at.result p a c.rows_left.ensures c.need_at.ensures) ∙ answered-some (refused_at old c.rows_left.result c.need_at.result p a) c.in_err-check.field-0.0 c.in_err-check.ensures in
+    refused old s a c.from_residual-in_err-check.result e.0 e.1 (good-refusal old (room_of old) (need_at old) s a p c.in_ok-path.ensures.0 ∙ (told ∙ ap Some (sym e.2)))
 
 pub apply-requires : goal.apply-requires
 apply-requires c =
     let old = listed c.args.self.now.rows in
     let a = c.args.action in
-    let p = names c.in-ok-path.path in
-    sym (asked old c.rows-left.result c.need-at.result p a c.rows-left.ensures c.need-at.ensures)
-    ∙ answered-none (refused_at old c.rows-left.result c.need-at.result p a) c.in-ok-check.field-0 c.in-ok-check.ensures
+    let p = names c.in_ok-path.path in
+    sym (asked old c.rows_left.result c.need_at.result p a c.rows_left.ensures c.need_at.ensures)
+    ∙ answered-none (refused_at old c.rows_left.result c.need_at.result p a) c.in_ok-check.field-0 c.in_ok-check.ensures
 
 granted : (old new : List Row) (s : List ℕ) (x : Path) (a : Action) → is_tree old ≡ true → judge s ≡ Ok (names x) → refused_at old (room_of old) (need_at old (names x)) (names x) a ≡ None → new ≡ edited old (names x) a → FlatOutcome old new s a (Ok tt)
 granted old new s x a t j h e =
@@ -62,6 +62,6 @@ pub returns : goal.returns
 returns c =
     let old = listed c.args.self.now.rows in
     let a = c.args.action in
-    let x = c.in-ok-path.path in
-    let none = sym (asked old c.rows-left.result c.need-at.result (names x) a c.rows-left.ensures c.need-at.ensures) ∙ answered-none (refused_at old c.rows-left.result c.need-at.result (names x) a) c.in-ok-check.field-0 c.in-ok-check.ensures in
-    granted old (listed c.apply.new.self.rows) c.args.path.now x a c.args.self.now.built c.in-ok-path.ensures.0 none c.apply.ensures
+    let x = c.in_ok-path.path in
+    let none = sym (asked old c.rows_left.result c.need_at.result (names x) a c.rows_left.ensures c.need_at.ensures) ∙ answered-none (refused_at old c.rows_left.result c.need_at.result (names x) a) c.in_ok-check.field-0 c.in_ok-check.ensures in
+    granted old (listed c.apply.new.self.rows) c.args.path.now x a c.args.self.now.built c.in_ok-path.ensures.0 none c.apply.ensures

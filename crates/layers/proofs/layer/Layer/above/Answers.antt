@@ -1,4 +1,4 @@
-use Rattle.std.proofs.Common.{◌≡◌, ◌+◌, ◌<◌, Bool, false, ◌||◌, length, take, sym, ap, ◌∙◌, arith}
+use Rattle.std.proofs.Common.{◌<◌, false, ◌||◌, length, take, sym, ap, ◌∙◌, arith}
 use Rattle.std.proofs.lemmas.List.{take_all}
 use Rattle.paths.specs.Paths.{names}
 use Rattle.rows.specs.Maps.{at}
@@ -14,8 +14,8 @@ loop-k-preserved c =
     let k = c.loop-k.k in
     let h : k < length p = omega (arith, c.loop-k-test.true, c.depth-k-end.ensures.value) in
     let f = c.mark-mark.ensures ∙ ap m c.prefix.ensures in (
-      c.either-cut.ensures ∙ ap (λ b. b || c.is-cut.result) c.loop-k.invariant.0 ∙ ap (λ b. some_above stops false m (take k p) || b) (c.is-cut.ensures ∙ ap stops f) ∙ sym (above_more stops m p k h),
-      c.either-opaque.ensures ∙ ap (λ b. b || c.is-opaque.result) c.loop-k.invariant.1 ∙ ap (λ b. some_above is_opaque false m (take k p) || b) (c.is-opaque.ensures ∙ ap is_opaque f) ∙ sym (above_more is_opaque m p k h),
+      c.either-cut.ensures ∙ ap (λ b. b || c.is_cut.result) c.loop-k.invariant.0 ∙ ap (λ b. some_above stops false m (take k p) || b) (c.is_cut.ensures ∙ ap stops f) ∙ sym (above_more stops m p k h),
+      c.either-opaque.ensures ∙ ap (λ b. b || c.is_opaque.result) c.loop-k.invariant.1 ∙ ap (λ b. some_above is_opaque false m (take k p) || b) (c.is_opaque.ensures ∙ ap is_opaque f) ∙ sym (above_more is_opaque m p k h),
     )
 
 pub returns : goal.returns

@@ -1,8 +1,6 @@
 use Rattle.std.proofs.Common.{◌≡◌, true, sym, ap, ◌∙◌, subst}
-use Rattle.std.specs.Option.{option_map}
 use Rattle.paths.specs.Paths.{names}
 use Rattle.rows.specs.Maps.{child_path, rooted}
-use Rattle.rows.specs.Sorts.{kept}
 use Rattle.trees.proofs.Grown.{grown-rooted}
 use Rattle.marks.specs.Marks.{holds, ranged}
 use Rattle.marks.proofs.Merges.{layer_parts}
@@ -15,4 +13,4 @@ returns c =
     let m = marks_of c.args.self.now in
     let s = c.sorted.ensures in
     let r = grown-rooted ranged holds holds_real m m (layer_parts m c.args.self.now.grown).1 in
-    c.child-after.ensures.least (subst (λ z. rooted z z ≡ true) (sym s) r) ∙ ap (λ z. child_path z (names c.args.path.now) c.args.after.now) s
+    c.child_after.ensures.least (subst (λ z. rooted z z ≡ true) (sym s) r) ∙ ap (λ z. child_path z (names c.args.path.now) c.args.after.now) s

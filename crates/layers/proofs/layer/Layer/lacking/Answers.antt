@@ -1,8 +1,8 @@
-use Rattle.std.proofs.Common.{◌≡◌, ◌+◌, ◌<◌, ◌≤◌, cond, length, take, drop, is_some, sym, ap, ◌∙◌, subst, arith}
+use Rattle.std.proofs.Common.{◌≡◌, ◌+◌, cond, take, drop, is_some, ap, ◌∙◌, arith}
 use Rattle.paths.specs.Names.{prefixes}
 use Rattle.paths.specs.Paths.{names}
 use Rattle.rows.specs.Maps.{at, has}
-use Rattle.marks.specs.Edits.{lacking, lacks}
+use Rattle.marks.specs.Edits.{lacking}
 use Rattle.layers.specs.Layers.{marks_of}
 use Rattle.layers.proofs.Lacks.{lacks_more, lacks_all}
 use Rattle.layers.proofs.layer.Layer.lacking.Goals as goal

@@ -1,4 +1,4 @@
-use Rattle.std.proofs.Common.{◌≡◌, sym, refl, ap, ◌∙◌, subst}
+use Rattle.std.proofs.Common.{sym, refl, ◌∙◌}
 use Rattle.paths.specs.Paths.{names}
 use Rattle.rows.specs.Tables.{listed}
 use Rattle.layers.proofs.Few.{few-rows}
@@ -6,26 +6,26 @@ use Rattle.sessions.specs.Sessions.{marks_in, rows_below}
 use Rattle.sessions.proofs.Taken.{taken_layer, taken_dirs, taken_shown, taken_hidden, taken_grows, taken_room}
 use Rattle.sessions.proofs.session.Session.take_out.Goals as goal
 
-pub invariant-of-self : goal.invariant-of-self
-invariant-of-self g c =
+pub invariant_of-self : goal.invariant_of-self
+invariant_of-self g c =
     let s = c.args.self.now in
-    (taken_layer (marks_in s) (rows_below g.T.Tree.entries s) s.layer.grown (g.T.Tree.entries s.lower).ok (names c.args.path.now) (few-rows s.layer) c.requires.good c.requires.granted (listed c.remove-under.new.self) c.remove-under.ensures, tt)
+    record { grown = taken_layer (marks_in s) (rows_below g.T.Tree.entries s) s.layer.grown (g.T.Tree.entries s.lower).ok (names c.args.path.now) (few-rows s.layer) c.requires.good c.requires.granted (listed c.remove_under.new.self) c.remove_under.ensures }
 
 pub write-requires : goal.write-requires
 write-requires g c =
     let s = c.args.self.now in
     let h = sym c.if-shows.ensures in
     record {
-      dirs = taken_dirs (marks_in s) (rows_below g.T.Tree.entries s) s.layer.grown (g.T.Tree.entries s.lower).ok (names c.args.path.now) (few-rows s.layer) c.requires.good c.requires.granted (listed c.remove-under.new.self) c.remove-under.ensures;
-      room = taken_room (marks_in s) (rows_below g.T.Tree.entries s) s.layer.grown (g.T.Tree.entries s.lower).ok (names c.args.path.now) (few-rows s.layer) c.requires.good c.requires.granted (listed c.remove-under.new.self) c.remove-under.ensures h;
-      grows = taken_grows (marks_in s) (rows_below g.T.Tree.entries s) s.layer.grown (g.T.Tree.entries s.lower).ok (names c.args.path.now) (few-rows s.layer) c.requires.good c.requires.granted (listed c.remove-under.new.self) c.remove-under.ensures h;
+      dirs = taken_dirs (marks_in s) (rows_below g.T.Tree.entries s) s.layer.grown (g.T.Tree.entries s.lower).ok (names c.args.path.now) (few-rows s.layer) c.requires.good c.requires.granted (listed c.remove_under.new.self) c.remove_under.ensures;
+      room = taken_room (marks_in s) (rows_below g.T.Tree.entries s) s.layer.grown (g.T.Tree.entries s.lower).ok (names c.args.path.now) (few-rows s.layer) c.requires.good c.requires.granted (listed c.remove_under.new.self) c.remove_under.ensures h;
+      grows = taken_grows (marks_in s) (rows_below g.T.Tree.entries s) s.layer.grown (g.T.Tree.entries s.lower).ok (names c.args.path.now) (few-rows s.layer) c.requires.good c.requires.granted (listed c.remove_under.new.self) c.remove_under.ensures h;
     }
 
 pub returns-then-shows : goal.returns-then-shows
 returns-then-shows g c =
     let s = c.args.self.now in
     record {
-      marks = c.write.ensures.marks ∙ taken_shown (marks_in s) (rows_below g.T.Tree.entries s) s.layer.grown (g.T.Tree.entries s.lower).ok (names c.args.path.now) (few-rows s.layer) c.requires.good c.requires.granted (listed c.remove-under.new.self) c.remove-under.ensures (sym c.if-shows.ensures);
+      marks = c.write.ensures.marks ∙ taken_shown (marks_in s) (rows_below g.T.Tree.entries s) s.layer.grown (g.T.Tree.entries s.lower).ok (names c.args.path.now) (few-rows s.layer) c.requires.good c.requires.granted (listed c.remove_under.new.self) c.remove_under.ensures (sym c.if-shows.ensures);
       lower = c.write.ensures.lower;
     }
 
@@ -33,6 +33,6 @@ pub returns-else-shows : goal.returns-else-shows
 returns-else-shows g c =
     let s = c.args.self.now in
     record {
-      marks = taken_hidden (marks_in s) (rows_below g.T.Tree.entries s) s.layer.grown (g.T.Tree.entries s.lower).ok (names c.args.path.now) (few-rows s.layer) c.requires.good c.requires.granted (listed c.remove-under.new.self) c.remove-under.ensures (sym c.if-shows.ensures);
+      marks = taken_hidden (marks_in s) (rows_below g.T.Tree.entries s) s.layer.grown (g.T.Tree.entries s.lower).ok (names c.args.path.now) (few-rows s.layer) c.requires.good c.requires.granted (listed c.remove_under.new.self) c.remove_under.ensures (sym c.if-shows.ensures);
       lower = refl;
     }

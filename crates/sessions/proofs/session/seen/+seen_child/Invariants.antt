@@ -3,5 +3,5 @@ use Rattle.rows.proofs.Least.{ahead}
 use Rattle.sessions.specs.Sessions.{marks_in}
 use Rattle.sessions.proofs.session.seen.+seen_child.Given as goal
 
-abbrev pub decreases-seen-child : goal.decreases-seen-child
-decreases-seen-child g l = ahead (marks_in l.session.now) (names l.path.now) l.after.now
+abbrev pub decreases-seen_child : goal.decreases-seen_child
+decreases-seen_child g l = ahead (marks_in l.session.now) (names l.path.now) l.after.now

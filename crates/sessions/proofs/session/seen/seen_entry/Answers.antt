@@ -1,4 +1,4 @@
-use Rattle.std.proofs.Common.{◌≡◌, sym, refl, ap, ◌∙◌}
+use Rattle.std.proofs.Common.{sym, ap, ◌∙◌}
 use Rattle.paths.specs.Paths.{names}
 use Rattle.rows.specs.Maps.{at}
 use Rattle.marks.specs.Marks.{cut, unless, see}
@@ -25,4 +25,4 @@ returns-else-cuts g c =
     let m = marks_in c.args.session.now in
     let e = rows_below g.T.Tree.entries c.args.session.now in
     let p = names c.args.path.now in
-    c.entry-at.ensures ∙ sym (at-merged m e p ∙ ap (λ z. see z (unless (cut (at m) p) (at e p))) (sym c.in-None.ensures) ∙ ap (λ b. unless b (at e p)) (sym c.cuts.ensures ∙ c.if-cuts.false))
+    c.entry_at.ensures ∙ sym (at-merged m e p ∙ ap (λ z. see z (unless (cut (at m) p) (at e p))) (sym c.in-None.ensures) ∙ ap (λ b. unless b (at e p)) (sym c.cuts.ensures ∙ c.if-cuts.false))

@@ -9,8 +9,8 @@ returns g c =
     let s = c.args.self.now in
     record {
       outcome =
-          edit_outcome (marks_in s) (rows_below g.T.Tree.entries s) s.layer.grown (g.T.Tree.entries s.lower).ok (few-rows s.layer) c.args.path.now c.args.action (marks_in c.edit-marks.new.self) (rows_below g.T.Tree.entries c.edit-marks.new.self) c.edit-marks.result
-          (ap (λ z. (g.T.Tree.entries z).rows) c.edit-marks.ensures.lower) c.edit-marks.ensures.answer c.edit-marks.ensures.marks;
-      marks = c.edit-marks.ensures.marks;
-      lower = c.edit-marks.ensures.lower;
+          edit_outcome (marks_in s) (rows_below g.T.Tree.entries s) s.layer.grown (g.T.Tree.entries s.lower).ok (few-rows s.layer) c.args.path.now c.args.action (marks_in c.edit_marks.new.self) (rows_below g.T.Tree.entries c.edit_marks.new.self) c.edit_marks.result
+          (ap (λ z. (g.T.Tree.entries z).rows) c.edit_marks.ensures.lower) c.edit_marks.ensures.answer c.edit_marks.ensures.marks;
+      marks = c.edit_marks.ensures.marks;
+      lower = c.edit_marks.ensures.lower;
     }
