@@ -10,8 +10,8 @@ use Rattle.rows.proofs.Unders.{parent_above}
 use Rattle.trees.specs.declared.entry.Entry.{Entry}
 use Rattle.trees.specs.declared.entry.Entry.TheVariants.{File, Dir}
 use Rattle.trees.specs.Entries.{Row, is_dir, in_range, fine, closed}
-use Rattle.trees.proofs.Closed.{is-sound, up-dir}
-use Rattle.trees.proofs.Grown.{Sound, grown_by}
+use Rattle.trees.proofs.Closed.{closed_by, is-sound, up-dir}
+use Rattle.trees.proofs.Grown.{Sound}
 use Rattle.edits.specs.declared.action.Action.{Action}
 use Rattle.edits.specs.declared.action.Action.TheVariants.{Put, Mkdir, Chmod, Remove}
 use Rattle.edits.specs.Edits.{putable, has_child, refused_at, with_mode, new_entry, edited, removes}
@@ -48,7 +48,7 @@ module _ (rs : List Row) (up : ascending rs ≡ true) (c : closed rs rs ≡ true
         (told q p)
 
     pub set_some-closed : fine p ≡ true → in_range e ≡ true → is_dir (at rs (parent p)) ≡ true → closed (set_at rs p (Some e)) (set_at rs p (Some e)) ≡ true
-    set_some-closed f r d = grown_by in_range is_dir (set_at rs p (Some e)) (ascending_set rs p (Some e) up) (λ q v h. ⊎_elim (λ y. here q v y.0 (sym (cond-true (same q p) (Some e) (at rs q) y.1) ∙ (sym (at_set rs p (Some e) q) ∙ h))) (λ n. other q v (sym (cond-false (same q p) (Some e) (at rs q) n) ∙ (sym (at_set rs p (Some e) q) ∙ h))) (told q p)) where
+    set_some-closed f r d = closed_by (set_at rs p (Some e)) (ascending_set rs p (Some e) up) (λ q v h. ⊎_elim (λ y. here q v y.0 (sym (cond-true (same q p) (Some e) (at rs q) y.1) ∙ (sym (at_set rs p (Some e) q) ∙ h))) (λ n. other q v (sym (cond-false (same q p) (Some e) (at rs q) n) ∙ (sym (at_set rs p (Some e) q) ∙ h))) (told q p)) where
       here : (q : Names) (v : Entry) → q ≡ p → Some e ≡ Some v → Sound in_range is_dir (set_at rs p (Some e)) (q, v)
       here q v s h =
           let is : e ≡ v = cc in
@@ -61,7 +61,7 @@ module _ (rs : List Row) (up : ascending rs ≡ true) (c : closed rs rs ≡ true
 
   -- nothing in place of a file or of a directory without a child
   pub set_none-closed : has_child rs p ≡ false → closed (set_at rs p None) (set_at rs p None) ≡ true
-  set_none-closed none = grown_by in_range is_dir (set_at rs p None) (ascending_set rs p None up) (λ q v h. each q v (same q p) refl (sym (at_set rs p None q) ∙ h)) where
+  set_none-closed none = closed_by (set_at rs p None) (ascending_set rs p None up) (λ q v h. each q v (same q p) refl (sym (at_set rs p None q) ∙ h)) where
     each : (q : Names) (v : Entry) (t : Bool) → same q p ≡ t → cond t None (at rs q) ≡ Some v → Sound in_range is_dir (set_at rs p None) (q, v)
     each q v true e h = absurd (true≢false (let z : ◌≡◌ {A = Bool} true false = cc in z))
     each q v false e h =

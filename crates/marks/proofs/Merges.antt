@@ -9,7 +9,8 @@ use Rattle.rows.proofs.Built.{at_joined, ascending-build, ascends-union, ascends
 use Rattle.trees.specs.declared.entry.Entry.{Entry}
 use Rattle.trees.specs.declared.entry.Entry.TheVariants as entry
 use Rattle.trees.specs.Entries.{Row, is_dir, in_range, closed}
-use Rattle.trees.proofs.Grown.{Sound, sound-at, grown_by}
+use Rattle.trees.proofs.Grown.{Sound, sound-at}
+use Rattle.trees.proofs.Closed.{closed_by}
 use Rattle.marks.specs.declared.mark.Mark.{Mark}
 use Rattle.marks.specs.declared.mark.Mark.TheVariants.{Whiteout, File, Dir, Opaque}
 use Rattle.marks.specs.Marks.{MarkRow, entry_of, stops, holds, ranged, cut, unless, see, laid, merged, sound, layered}
@@ -91,4 +92,4 @@ module _ (m : List MarkRow) (e : List Row) (lm : layered m ≡ true) (le : (asce
   pub merged_tree : (ascending (merged m e) && closed (merged m e) (merged m e)) ≡ true
   merged_tree =
       let up = ascending-merged m e (tree_parts e le).0 in
-      and_from (ascending (merged m e)) (closed (merged m e) (merged m e)) up (grown_by in_range is_dir (merged m e) up merged-sound)
+      and_from (ascending (merged m e)) (closed (merged m e) (merged m e)) up (closed_by (merged m e) up merged-sound)
