@@ -4,8 +4,8 @@ ghost use Rattle.sessions.specs.Sessions.{marks_in};
 
 use layers::layer::Layer;
 
+pub mod copies;
 pub mod editing;
-pub mod rows;
 pub mod seen;
 pub mod shown;
 

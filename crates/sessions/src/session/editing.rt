@@ -11,7 +11,7 @@ ghost use Rattle.sessions.specs.Sessions.{room_of, refusal_over, marks_after, ma
 ghost use Rattle.marks.proofs.Noted.{lacks_most};
 
 use crate::session::Session;
-use crate::session::rows::fresh_rows;
+use crate::session::copies::fresh_rows;
 use crate::session::seen::seen_entry;
 use edits::action::Action;
 use edits::checks;

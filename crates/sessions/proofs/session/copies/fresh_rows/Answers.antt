@@ -4,8 +4,8 @@ use Rattle.rows.specs.Maps.{has, under}
 use Rattle.sessions.specs.Sessions.{marks_in, rows_below}
 use Rattle.sessions.specs.Copies.{fresh_mark}
 use Rattle.sessions.proofs.Copied.{Filled, fill_skip, fill_more, fill_all, under-take}
-use Rattle.sessions.proofs.session.rows.fresh_rows.Goals as goal
-use Rattle.sessions.proofs.session.rows.fresh_rows.Goals.{then-is_none, else-is_none}
+use Rattle.sessions.proofs.session.copies.fresh_rows.Goals as goal
+use Rattle.sessions.proofs.session.copies.fresh_rows.Goals.{then-is_none, else-is_none}
 
 pub loop-k-init : goal.loop-k-init
 loop-k-init g c = record { few = omega arith; wide = refl; whole = refl }

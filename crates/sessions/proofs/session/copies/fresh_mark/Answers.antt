@@ -5,7 +5,7 @@ use Rattle.trees.specs.Entries.{is_dir}
 use Rattle.marks.specs.Edits.{lifted}
 use Rattle.sessions.specs.Sessions.{marks_in, rows_below}
 use Rattle.sessions.proofs.Copied.{fresh_here, fresh_above}
-use Rattle.sessions.proofs.session.rows.fresh_mark.Goals as goal
+use Rattle.sessions.proofs.session.copies.fresh_mark.Goals as goal
 
 pub returns-then-is_same : goal.returns-then-is_same
 returns-then-is_same g c =
