@@ -1,6 +1,6 @@
 -- The numbers of a fault of a tree or a buffer, and how it is printed. Assumes nothing.
 use Rattle.std.specs.Prelude.{ℕ, List, ◌∷◌, ◌++◌, decimal}
-use Rattle.paths.specs.Faults.{fields as path-fields}
+use Rattle.paths.specs.Faults.{fields as path_fields}
 use Rattle.trees.specs.declared.fault.Fault.{Fault}
 use Rattle.trees.specs.declared.fault.Fault.TheVariants.{Path, Missing, NotDirectory, IsDirectory, Exists, NotEmpty, Root, OutOfRange, NoRoom, ShortBuffer}
 
@@ -10,7 +10,7 @@ numbered cause place = 116 ∷ 32 ∷ (decimal cause ++ 32 ∷ decimal place)
 
 -- a path's fault is printed as that
 abbrev pub fields : Fault → List ℕ
-fields (Path f) = path-fields f
+fields (Path f) = path_fields f
 fields (Missing k) = numbered 10 k
 fields (NotDirectory k) = numbered 11 k
 fields (IsDirectory k) = numbered 12 k

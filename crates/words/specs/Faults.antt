@@ -1,7 +1,7 @@
 -- The number of a cause, and how it is printed. Assumes nothing.
 use Rattle.std.specs.Prelude.{ℕ, List, Ok, Err, decimal, Result}
 use Rattle.paths.specs.declared.PathFault.{PathFault}
-use Rattle.paths.specs.Faults.{fields as path-fields}
+use Rattle.paths.specs.Faults.{fields as path_fields}
 use Rattle.words.specs.declared.fault.Cause.{Cause}
 use Rattle.words.specs.declared.fault.Cause.TheVariants.{Header, Word, Path, Keyword, Value, Order, Parent, TooMany, OtherRows}
 
@@ -9,7 +9,7 @@ use Rattle.words.specs.declared.fault.Cause.TheVariants.{Header, Word, Path, Key
 abbrev pub cause_fields : Cause → List ℕ
 cause_fields Header = decimal 30
 cause_fields Word = decimal 31
-cause_fields (Path f) = path-fields f
+cause_fields (Path f) = path_fields f
 cause_fields Keyword = decimal 32
 cause_fields Value = decimal 33
 cause_fields Order = decimal 34
@@ -20,4 +20,4 @@ cause_fields OtherRows = decimal 37
 -- how a number, or the fault of a path, is printed
 abbrev pub said : Result ℕ PathFault → List ℕ
 said (Ok n) = decimal n
-said (Err f) = path-fields f
+said (Err f) = path_fields f
