@@ -2,7 +2,7 @@
 """Respells this repository's own definitions and lemmas, once, behind the toolchain's port.py.
 
 Words are in snake case, types and statements in upper camel case. A dash stays where it joins the names of two
-definitions, as in `above-add`; a plain word is joined by `_`, as in `at_missing`. Names of src/ (functions, fields,
+definitions, as in `above-add`; a plain word is joined by `_`, as in `clean_path`. Names of src/ (functions, fields,
 constants), strings, comments of the code, inputs and outputs keep their spelling.
 
 usage: python3 tools/respell.py [ROOT]

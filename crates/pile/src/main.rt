@@ -8,6 +8,7 @@ use reports::report::{Report, report_manifest};
 use std::fs::File;
 use std::io;
 use std::io::{ErrorKind, Read, Write};
+use std::process::ExitCode;
 
 // One byte more than a manifest may have, so that a longer file is seen to be too long.
 const MOST_READ: u64 = 65537;
@@ -49,9 +50,10 @@ fn run(rt: &HostRuntime) -> anyhow::Result<bool> {
     }
 }
 
-fn main(rt: HostRuntime) -> anyhow::Result<()> {
+fn main(rt: HostRuntime) -> anyhow::Result<ExitCode> {
     if run(&rt)? {
-        return Ok(());
+        Ok(ExitCode::SUCCESS)
+    } else {
+        Ok(ExitCode::FAILURE)
     }
-    Err(anyhow!("refused"))
 }
