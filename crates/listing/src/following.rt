@@ -1,5 +1,5 @@
 // The path that comes next in a tree.
-ghost use Rattle.std.specs.Prelude.{◌≡◌, true, [], ◌∷◌, length};
+ghost use Rattle.std.specs.Prelude.{◌≡◌, true, []};
 ghost use Rattle.std.specs.Option.{option_map};
 ghost use Rattle.paths.specs.Paths.{names};
 ghost use Rattle.rows.specs.Maps.{has, path_after};

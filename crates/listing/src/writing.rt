@@ -1,5 +1,5 @@
 // How a line is written, piece by piece.
-ghost use Rattle.std.specs.Prelude.{◌≡◌, ◌+◌, ◌*◌, ◌<◌, ◌≤◌, true, [], ◌∷◌, ◌++◌, length, decimal};
+ghost use Rattle.std.specs.Prelude.{◌≡◌, ◌+◌, ◌*◌, ◌<◌, ◌≤◌, true, [], ◌++◌, length, decimal};
 ghost use Rattle.paths.specs.Paths.{names};
 ghost use Rattle.rows.specs.Maps.{has};
 ghost use Rattle.listing.specs.Lines.{escape, escaped, dotted, digit, digits, file_keywords, keywords, line, line_at};

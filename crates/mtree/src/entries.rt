@@ -1,5 +1,5 @@
 // The entry that the keywords of a line give, judged from the left.
-ghost use Rattle.std.specs.Prelude.{◌≡◌, length, Ok, Err, MatchResult};
+ghost use Rattle.std.specs.Prelude.{◌≡◌, Ok, Err, MatchResult};
 ghost use Rattle.paths.specs.Names.{same};
 ghost use Rattle.mtree.specs.Lexed.{unread, tail, Ready};
 ghost use Rattle.mtree.specs.Numbers.{mode_of, size_of, content_of};

@@ -1,5 +1,5 @@
 // Numbers as keywords hold them.
-ghost use Rattle.std.specs.Prelude.{◌≡◌, ℕ, ◌*◌, ◌^◌, ◌<◌, ◌≤◌, length, IfSome};
+ghost use Rattle.std.specs.Prelude.{◌≡◌, ◌*◌, ◌^◌, ◌<◌, ◌≤◌, length, IfSome};
 ghost use Rattle.mtree.specs.Numbers.{digit_value, numeral, mode_of, size_of, content_of};
 
 fn digit_value(base: u8, digit: u8) -> Option<u8>

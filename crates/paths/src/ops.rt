@@ -1,6 +1,6 @@
 // What a path can do.
 ghost use Rattle.std.specs.Prelude.{◌≡◌, ◌+◌, ◌<◌, ◌≤◌, true, [], ◌∷◌, ◌++◌, length, take, Decides, MatchOption};
-ghost use Rattle.paths.specs.Names.{good, join, parent, last_name, Under};
+ghost use Rattle.paths.specs.Names.{good, parent, last_name, Under};
 ghost use Rattle.paths.specs.Paths.{text, names, order, Parsed, child_fault, Child};
 
 use crate::{Path, PathFault, scan};

@@ -1,5 +1,5 @@
 // The listing of what a folder holds, or why there is none.
-ghost use Rattle.std.specs.Prelude.{◌≡◌, IfOk, string_bytes};
+ghost use Rattle.std.specs.Prelude.{IfOk};
 ghost use Rattle.reports.specs.Refusals.{refusal as refusal_of};
 ghost use Rattle.reports.specs.Reports.{Lists, Reports, Says};
 

@@ -2,8 +2,7 @@
 
 #![tactic(auto)]
 
-ghost use Rattle.std.specs.Prelude.{◌≡◌, cond, [], ◌∷◌, Some, None, Ok, Err, MatchOption, MatchResult};
-ghost use Rattle.paths.specs.Names.{begins};
+ghost use Rattle.std.specs.Prelude.{◌≡◌, [], Some, None, Ok, Err, MatchOption, MatchResult};
 ghost use Rattle.paths.specs.Paths.{names};
 ghost use Rattle.words.specs.Words.{undotted, judged_word, long_fault, path_of};
 
