@@ -12,6 +12,7 @@ use Rattle.trees.specs.declared.entry.Entry.TheVariants.{File, Dir}
 use Rattle.trees.specs.declared.fault.Fault.{Fault}
 use Rattle.trees.specs.declared.fault.Fault.TheVariants.{Path, IsDirectory, Exists, NotEmpty, Root, OutOfRange, NoRoom}
 use Rattle.trees.specs.Entries.{Row, is_dir, in_range}
+pub use Rattle.trees.specs.Entries.{with_mode}
 use Rattle.trees.specs.Answers.{present, lost}
 
 abbrev pub refuse_if : Bool → Fault → Option Fault
@@ -73,10 +74,6 @@ unfoldable pub refusal : List Row → ℕ → (Names → ℕ) → List ℕ → A
 refusal rs room needs s a = refused_in rs room needs a (judge s)
 
 -- ---- the change
-
-abbrev pub with_mode : ℕ → Entry → Entry
-with_mode m (File f) = File (record { mode = m; size = f.size; content = f.content })
-with_mode m (Dir d) = Dir (record { mode = m })
 
 -- what stands at the path afterwards
 abbrev pub new_entry : Action → Option Entry → Option Entry

@@ -1,7 +1,7 @@
 // What an edit does at a path.
 use trees::entry::Entry;
 
-#[derive(Clone, Copy)]
+#[derive(Clone, Copy, PartialEq, Eq)]
 pub enum Action {
     // A file, new or in place of one.
     Put(Entry),

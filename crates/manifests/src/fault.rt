@@ -6,7 +6,7 @@ use std::fmt;
 use words::fault::Cause;
 
 // A cause, at the position of its line's first byte.
-#[derive(Clone, Copy)]
+#[derive(Clone, Copy, PartialEq, Eq)]
 pub struct ManifestFault {
     pub at: usize,
     pub cause: Cause,

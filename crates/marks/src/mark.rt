@@ -4,7 +4,7 @@ ghost use Rattle.marks.specs.Marks.{entry_of, stops};
 
 use trees::entry::{DirMeta, Entry, FileMeta};
 
-#[derive(Clone, Copy)]
+#[derive(Clone, Copy, PartialEq, Eq)]
 pub enum Mark {
     // Nothing is there, whatever lies below.
     Whiteout,

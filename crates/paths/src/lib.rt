@@ -13,7 +13,7 @@ mod scan;
 pub mod theorems;
 
 // Why a text is no path.
-#[derive(Clone, Copy)]
+#[derive(Clone, Copy, PartialEq, Eq)]
 pub enum PathFault {
     TooLong,
     // The name of that count, from 0, is bad.

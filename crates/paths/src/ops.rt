@@ -49,7 +49,7 @@ impl Path {
     pub fn compare(&self, other: &Path) -> Ordering
         ensures { result ≡ order self.now other.now }
     {
-        scan::compare_texts(self.as_bytes(), other.as_bytes())
+        self.cmp(other)
     }
 
     // How many names there are.

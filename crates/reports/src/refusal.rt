@@ -8,7 +8,7 @@ use std::fmt;
 use trees::fault::Fault;
 
 // Every kind of fault that a program may have to print.
-#[derive(Clone, Copy)]
+#[derive(Clone, Copy, PartialEq, Eq)]
 pub enum Reason {
     Tree(Fault),
     Manifest(ManifestFault),

@@ -1,5 +1,5 @@
 -- What a tree means: a finite map from good paths to entries. Assumes nothing.
-use Rattle.std.specs.Prelude.{◌≡◌, Bool, true, false, not, ◌&&◌, List, [], ◌∷◌, length, is_some, Some, None, Option, nat_le, nat_lt}
+use Rattle.std.specs.Prelude.{◌≡◌, ℕ, Bool, true, false, not, ◌&&◌, List, [], ◌∷◌, length, is_some, Some, None, Option, nat_le, nat_lt}
 use Rattle.paths.specs.Names.{join, fault_in, parent}
 use Rattle.rows.specs.Maps.{Names, at, ascending}
 use Rattle.trees.specs.declared.entry.Entry.{Entry}
@@ -22,6 +22,11 @@ is_file (Some (Dir d)) = false
 abbrev pub in_range : Entry → Bool
 in_range (File f) = nat_le f.mode 4095 && (nat_le f.size 1099511627776 && nat_lt f.content 18446744073709551616)
 in_range (Dir d) = nat_le d.mode 4095
+
+-- an entry with another mode, and all else as it is
+abbrev pub with_mode : ℕ → Entry → Entry
+with_mode m (File f) = File (record { mode = m; size = f.size; content = f.content })
+with_mode m (Dir d) = Dir (record { mode = m })
 
 -- names without a fault, and at most 120 bytes
 abbrev pub fine : Names → Bool

@@ -8,7 +8,7 @@ ghost use Rattle.trees.specs.Numbers.{said};
 use paths::PathFault;
 use std::fmt;
 
-#[derive(Clone, Copy)]
+#[derive(Clone, Copy, PartialEq, Eq)]
 pub enum Fault {
     // The path is not good.
     Path(PathFault),

@@ -6,7 +6,7 @@ ghost use Rattle.words.specs.Faults.{cause_fields, said};
 use paths::PathFault;
 use std::fmt;
 
-#[derive(Clone, Copy)]
+#[derive(Clone, Copy, PartialEq, Eq)]
 pub enum Cause {
     // The text is too long, or does not begin with the line `#mtree`.
     Header,
