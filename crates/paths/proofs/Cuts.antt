@@ -1,9 +1,12 @@
 -- What the first name of a text says. Assumes nothing.
-use Rattle.std.proofs.Common.{◌≡◌, ℕ, ◌+◌, ◌<◌, ◌≤◌, true, false, not, ◌&&◌, leb, List, [], ◌∷◌, length, get_or, drop, Some, refl, ap, ◌∙◌, arith}
-use Rattle.std.proofs.lemmas.List.{at_drop_more, at_drop_all}
-use Rattle.std.proofs.lemmas.Bool.{and_left, and_right, cond-true, cond-false, eq-eqb, ne_eqb, le-leb, lt-leb}
+use Rattle.std.proofs.Common.{◌≡◌, ℕ, ◌+◌, ◌<◌, ◌≤◌, true, false, not, ◌&&◌, leb, List, [], ◌∷◌, length, get_or, drop, eqb, Some, refl, sym, ap, subst, ◌∙◌, arith}
+use Rattle.std.proofs.lemmas.List.{drop_more, drop_all}
+use Rattle.std.proofs.lemmas.Bool.{cond-true, cond-false, eq-eqb, ne_eqb, le-leb, lt-leb}
+use Rattle.std.proofs.lemmas.List.FromFn.{length-enumerate_from, get_or-enumerate_from}
+use Rattle.std.specs.List.{slice_split, enumerate_from}
 use Rattle.paths.specs.declared.PathFault.TheVariants.{BadName, TooDeep}
 use Rattle.paths.specs.Pieces.{pieces}
+use Rattle.paths.proofs.Fronts.{split_pieces}
 use Rattle.paths.specs.Names.{split, plain, good_name, fault_in, fault}
 
 pub split-some : (s : List ℕ) → 0 < length s → split s ≡ pieces 47 s
@@ -24,19 +27,19 @@ fault_bad k n ns h g = cond-false (leb 8 k) _ _ (lt-leb 8 k h) ∙ cond-false (g
 pub fault-good : (k : ℕ) (n : List ℕ) (ns : List (List ℕ)) → k < 8 → good_name n ≡ true → fault_in k (n ∷ ns) ≡ fault_in (k + 1) ns
 fault-good k n ns h g = cond-false (leb 8 k) _ _ (lt-leb 8 k h) ∙ cond-true (good_name n) _ _ g
 
--- ---- a loop over the bytes of a name
+-- ---- the names with their places
 
-module _ (s : List ℕ) (i : ℕ) where
-  pub plain_zero : i < length s → get_or s i 0 ≡ 0 → plain (drop i s) ≡ false
-  plain_zero lt e = at_drop_more plain s i 0 lt ∙ and_left _ _ (and_left _ _ (ap not (eq-eqb _ 0 e)))
+abbrev pub placed : List ℕ → List (ℕ × List ℕ)
+placed s = enumerate_from 0 (slice_split (λ b. eqb b 47) s)
 
-  pub plain_slash : i < length s → get_or s i 0 ≡ 47 → plain (drop i s) ≡ false
-  plain_slash lt e = at_drop_more plain s i 0 lt ∙ and_right _ _ (and_left _ _ (ap not (eq-eqb _ 47 e)))
+pub placed_turn : (s : List ℕ) (k i : ℕ) (n : List ℕ) → k < length (placed s) → ◌≡◌ {A = ℕ × List ℕ} (i, n) (get_or (placed s) k (i, n)) → (i ≡ k) × (drop k (pieces 47 s) ≡ n ∷ drop (k + 1) (pieces 47 s))
+placed_turn s k i n lt e =
+    let ps = slice_split (λ b. eqb b 47) s in
+    let l : k < length ps = omega (arith, length-enumerate_from 0 ps) in
+    let at = e ∙ get_or-enumerate_from 0 ps k (i, n) l in
+    let first : i ≡ k = omega (arith, ap (λ p. p.0) at) in
+    let here : drop k ps ≡ n ∷ drop (k + 1) ps = drop_more ps k n l ∙ ap (λ m. m ∷ drop (k + 1) ps) (sym (ap (λ p. p.1) at)) in
+    (first, subst (λ qs. drop k qs ≡ n ∷ drop (k + 1) qs) (split_pieces 47 s) here)
 
-  pub plain_on : i < length s → get_or s i 0 < 256 → (get_or s i 0 ≡ 0 → ⊥) → (get_or s i 0 ≡ 47 → ⊥) → plain (drop i s) ≡ plain (drop (i + 1) s)
-  plain_on lt byte z n =
-      let b : get_or s i 0 ≤ 255 = omega arith in
-      at_drop_more plain s i 0 lt ∙ (λ j. (not (ne_eqb (get_or s i 0) 0 z j) && le-leb (get_or s i 0) 255 b j) && (not (ne_eqb (get_or s i 0) 47 n j) && plain (drop (i + 1) s)))
-
-  pub plain_out : length s ≤ i → plain (drop i s) ≡ true
-  plain_out h = at_drop_all plain s i h
+pub placed_end : (s : List ℕ) (k : ℕ) → k ≡ length (placed s) → drop k (pieces 47 s) ≡ []
+placed_end s k e = drop_all k (pieces 47 s) (omega (arith, length-enumerate_from 0 (slice_split (λ b. eqb b 47) s), ap length (split_pieces 47 s)))

@@ -3,6 +3,8 @@ use Rattle.std.proofs.Common.{◌≡◌, ℕ, suc, ◌+◌, ◌-◌, ◌<◌, �
 use native.Mathlib.Nat.{sub-zero}
 use Rattle.std.proofs.lemmas.List.{at_drop_more, at_drop_all, take_rest}
 use Rattle.std.proofs.lemmas.Bool.{cond-true, cond-false, eq-eqb, ne_eqb}
+use Rattle.std.proofs.lemmas.List.Recursion.{is_count_by, same_from_clauses}
+use Rattle.std.specs.List.{count_by, slice_split, onto_first}
 use Rattle.paths.specs.Pieces.{front, later, pieces}
 
 module _ (sep : ℕ) where
@@ -44,17 +46,16 @@ module _ (sep : ℕ) where
         | false ↦ λ e. later-some bs (omega arith)
       ] h
 
-  -- ---- a loop over the bytes
+  pub later_count : (s : List ℕ) → length (later sep s) ≡ count_by (λ b. eqb b sep) s
+  later_count = is_count_by (λ s. length (later sep s)) (λ b. eqb b sep) refl step where
+    step : (b : ℕ) (bs : List ℕ) → length (cond (eqb b sep) (pieces sep bs) (later sep bs)) ≡ cond (eqb b sep) (1 + length (later sep bs)) (length (later sep bs))
+    step b bs = elim (eqb b sep) as (λ t. length (cond t (pieces sep bs) (later sep bs)) ≡ cond t (1 + length (later sep bs)) (length (later sep bs))) [ true ↦ omega arith | false ↦ refl ]
 
-  module _ (s : List ℕ) (i : ℕ) where
-    pub front-here : i < length s → get_or s i 0 ≡ sep → length (front sep (drop i s)) ≡ 0
-    front-here lt e = ap length (at_drop_more (front sep) s i 0 lt ∙ front_stop _ (drop (i + 1) s) e)
-
-    pub front_on : i < length s → (get_or s i 0 ≡ sep → ⊥) → length (front sep (drop i s)) ≡ suc (length (front sep (drop (i + 1) s)))
-    front_on lt n = ap length (at_drop_more (front sep) s i 0 lt ∙ front_go _ (drop (i + 1) s) n)
-
-    pub front_out : length s ≤ i → length (front sep (drop i s)) ≡ 0
-    front_out h = ap length (at_drop_all (front sep) s i h)
+  -- the pieces are the parts of the library's `split`
+  pub split_pieces : (s : List ℕ) → slice_split (λ b. eqb b sep) s ≡ pieces sep s
+  split_pieces = same_from_clauses (slice_split (λ b. eqb b sep)) (pieces sep) (λ b ps. cond (eqb b sep) ([] ∷ ps) (onto_first b ps)) refl (λ _ _. refl) step where
+    step : (b : ℕ) (bs : List ℕ) → pieces sep (b ∷ bs) ≡ cond (eqb b sep) ([] ∷ pieces sep bs) (onto_first b (pieces sep bs))
+    step b bs = elim (eqb b sep) as (λ t. ◌≡◌ {A = List (List ℕ)} (cond t [] (b ∷ front sep bs) ∷ cond t (pieces sep bs) (later sep bs)) (cond t ([] ∷ pieces sep bs) (onto_first b (pieces sep bs)))) [ true ↦ refl | false ↦ refl ]
 
   -- ---- the first name, as the code cuts it
 

@@ -3,6 +3,7 @@ use Rattle.std.proofs.Common.{◌≡◌, ℕ, zero, suc, ◌+◌, ◌-◌, ◌<�
 use Rattle.std.proofs.lemmas.List.{take_at, length-append, length-map, get_or-map}
 use Rattle.std.proofs.lemmas.Bool.{and_parts, not-true, cond-true, cond-false, eq-eqb, ne_eqb, eqb-true, eqb-false, leb-true, leb-false, true≢false, le-leb, lt-leb}
 use Rattle.std.specs.List.{AllByRecursion as All}
+use Rattle.paths.specs.declared.PathFault.{PathFault}
 use Rattle.paths.specs.declared.PathFault.TheVariants.{TooLong, BadName, TooDeep}
 use Rattle.paths.specs.Pieces.{front, later, pieces}
 use Rattle.paths.specs.Names.{split, join, plain, reserved, good_name, fault_in, good, parent, prefixes, Under}
@@ -100,6 +101,19 @@ plain-from-fault k (n ∷ ns) h =
 
 pub fault-from_parts : (k : ℕ) (n : List ℕ) (ns : List (List ℕ)) → k < 8 → good_name n ≡ true → fault_in k (n ∷ ns) ≡ fault_in (k + 1) ns
 fault-from_parts k n ns h g = cond-false (leb 8 k) _ _ (lt-leb 8 k h) ∙ cond-true (good_name n) _ _ g
+
+-- one name alone, and the first of several
+pub fault_on : (k : ℕ) (n : List ℕ) (ns : List (List ℕ)) → fault_in k (n ∷ []) ≡ None → fault_in k (n ∷ ns) ≡ fault_in (k + 1) ns
+fault_on k n ns h =
+    let f = fault_parts k n [] (ap is_some h) in
+    fault-from_parts k n ns f.0 f.1
+
+pub fault_stop : (k : ℕ) (n : List ℕ) (ns : List (List ℕ)) (e : PathFault) → fault_in k (n ∷ []) ≡ Some e → fault_in k (n ∷ ns) ≡ Some e
+fault_stop k n ns e h = go (leb 8 k) (good_name n) h where
+  go : (t g : Bool) → cond t (Some TooDeep) (cond g None (Some (BadName k))) ≡ Some e → cond t (Some TooDeep) (cond g (fault_in (k + 1) ns) (Some (BadName k))) ≡ Some e
+  go true g h = h
+  go false true h = cc
+  go false false h = h
 
 pub fault-take : (k j : ℕ) (ns : List (List ℕ)) → is_some (fault_in k ns) ≡ false → is_some (fault_in k (take j ns)) ≡ false
 fault-take k zero ns h = refl

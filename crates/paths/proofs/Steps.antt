@@ -150,22 +150,22 @@ module _ (s : List ℕ) (e : ℕ) (is : e ≡ length (front 47 s)) where
 -- ---- a text in an array
 
 module _ (bs ys : List ℕ) (is : ys ≡ bs) (fits : length bs ≤ 120) where
-  pub padded_text : take (length bs) (ys ++ drop (length bs - 0) (replicate 120 0)) ≡ bs
-  padded_text = take_at ys (drop (length bs - 0) (replicate 120 0)) (length bs) (ap length is) ∙ is
+  pub padded_text : take (length bs) (ys ++ drop (length bs) (replicate 120 0)) ≡ bs
+  padded_text = take_at ys (drop (length bs) (replicate 120 0)) (length bs) (ap length is) ∙ is
 
-  pub padded_wide : length (ys ++ drop (length bs - 0) (replicate 120 0)) ≡ 120
+  pub padded_wide : length (ys ++ drop (length bs) (replicate 120 0)) ≡ 120
   padded_wide =
-      length-append ys (drop (length bs - 0) (replicate 120 0)) ∙ simp (length-drop, length-replicate) (omega (arith, ap length is))
+      length-append ys (drop (length bs) (replicate 120 0)) ∙ simp (length-drop, length-replicate) (omega (arith, ap length is))
 
-  pub padded_rest : drop (length bs) (ys ++ drop (length bs - 0) (replicate 120 0)) ≡ replicate (120 - length bs) 0
+  pub padded_rest : drop (length bs) (ys ++ drop (length bs) (replicate 120 0)) ≡ replicate (120 - length bs) 0
   padded_rest =
-      drop_at ys (drop (length bs - 0) (replicate 120 0)) (length bs) (ap length is) ∙ ap (λ n. drop n (replicate 120 0)) (sub-zero (length bs)) ∙ drop-replicate (length bs) 120 0
+      drop_at ys (drop (length bs) (replicate 120 0)) (length bs) (ap length is) ∙ drop-replicate (length bs) 120 0
 
 -- a text, a `/` and a name, written into an array
 module _ (bytes ys name : List ℕ) (n : ℕ) (is : ys ≡ name) (fits : n + 1 + length name ≤ length bytes) where
-  pub extended_text : take (n + 1 + length name - 0) (put_mid (n + 1) (n + 1 + length name - (n + 1)) (set bytes n 47) ys) ≡ take n bytes ++ 47 ∷ name
+  pub extended_text : take (n + 1 + length name) (put_mid (n + 1) (n + 1 + length name - (n + 1)) (set bytes n 47) ys) ≡ take n bytes ++ 47 ∷ name
   extended_text =
       let long : n + 1 ≤ length (set bytes n 47) = simp length-set (omega arith) in
-      let end : n + 1 + length name - 0 ≡ n + 1 + length ys = omega (arith, ap length is) in
+      let end : n + 1 + length name ≡ n + 1 + length ys = omega (arith, ap length is) in
       let within : n < length bytes = omega arith in
       take-put_mid (n + 1) (n + 1 + length name - (n + 1)) (set bytes n 47) ys _ end long ∙ (λ j. take_more_set bytes n 47 within j ++ is j) ∙ append_assoc (take n bytes) (47 ∷ []) name

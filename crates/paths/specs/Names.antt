@@ -49,6 +49,11 @@ fault b = cond (nat_le (length b) 120) (fault_in 0 (split b)) (Some TooLong)
 abbrev pub good : List ℕ → Bool
 good b = not (is_some (fault b))
 
+-- refused with that fault, or else granted
+abbrev pub Checked : Option PathFault → Result (Unit {0}) PathFault → Type 0
+Checked o (Ok _) = o ≡ None
+Checked o (Err e) = o ≡ Some e
+
 abbrev pub judged : List (List ℕ) → Option PathFault → Result (List (List ℕ)) PathFault
 judged ns None = Ok ns
 judged ns (Some e) = Err e

@@ -1,39 +1,18 @@
-// The numbers of a path's fault, and how it is printed.
-ghost use Rattle.std.specs.Prelude.{◌≡◌, Some};
-ghost use Rattle.paths.specs.Faults.{cause as cause_of, place as place_of, fields};
+// How a path's fault is printed: `p`, its cause and its place.
+ghost use Rattle.std.specs.Prelude.{Some};
+ghost use Rattle.paths.specs.Faults.{fields};
 
 use crate::PathFault;
 use std::fmt;
-
-impl PathFault {
-    fn cause(self) -> u8
-        ensures { result ≡ cause_of self }
-    {
-        match self {
-            PathFault::TooLong => 1,
-            PathFault::BadName(_) => 2,
-            PathFault::TooDeep => 3,
-        }
-    }
-
-    // The count of the bad name, or of the first name too many.
-    fn place(self) -> u8
-        ensures { result ≡ place_of self }
-    {
-        match self {
-            PathFault::TooLong => 0,
-            PathFault::BadName(count) => count,
-            PathFault::TooDeep => 8,
-        }
-    }
-}
 
 impl fmt::Display for PathFault {
     ghost output = { λ f. Some (fields f) };
 
     fn fmt<W: fmt::Write>(&self, f: &mut fmt::Formatter<W>) -> fmt::Result {
-        let cause = self.cause();
-        let place = self.place();
-        write!(f, "p {cause} {place}")
+        match self {
+            PathFault::TooLong => write!(f, "p 1 0"),
+            PathFault::BadName(count) => write!(f, "p 2 {count}"),
+            PathFault::TooDeep => write!(f, "p 3 8"),
+        }
     }
 }

@@ -1,6 +1,6 @@
 // What a path can do.
 ghost use Rattle.std.specs.Prelude.{◌≡◌, ◌+◌, ◌<◌, ◌≤◌, true, [], ◌∷◌, ◌++◌, length, take, Decides, MatchOption};
-ghost use Rattle.paths.specs.Names.{good, parent, last_name, Under};
+ghost use Rattle.paths.specs.Names.{good, parent, last_name, Under, Checked};
 ghost use Rattle.paths.specs.Paths.{text, names, order, Parsed, child_fault, Child};
 
 use crate::{Path, PathFault, scan};
@@ -12,13 +12,10 @@ impl Path {
         requires { good bytes.now ≡ true }
         ensures { text result ≡ bytes.now }
     {
-        let n = bytes.len();
+        let len = bytes.len();
         let mut held = [0; 120];
-        held[0..n].copy_from_slice(bytes);
-        Path {
-            bytes: held,
-            len: n,
-        }
+        held[..len].copy_from_slice(bytes);
+        Path { bytes: held, len }
     }
 
     // The path without names.
@@ -32,17 +29,15 @@ impl Path {
     pub fn parse(bytes: &[u8]) -> Result<Path, PathFault>
         ensures { Parsed bytes.now result }
     {
-        match scan::fault_of(bytes) {
-            Some(fault) => Err(fault),
-            None => Ok(Path::of_good(bytes)),
-        }
+        scan::check(bytes)?;
+        Ok(Path::of_good(bytes))
     }
 
     // The text of the path.
     pub fn as_bytes(&self) -> &[u8]
         ensures { result.now ≡ text self.now }
     {
-        &self.bytes[0..self.len]
+        &self.bytes[..self.len]
     }
 
     // Path order: name by name.
@@ -66,18 +61,15 @@ impl Path {
     {
         let bytes = self.as_bytes();
         let end = scan::prefix_end(bytes, k);
-        Path::of_good(&bytes[0..end])
+        Path::of_good(&bytes[..end])
     }
 
     // The path without its last name; the root has none.
     pub fn parent(&self) -> Option<Path>
         ensures { MatchOption result (names self.now ≡ []) (λ p. (0 < length (names self.now)) × (names p ≡ parent (names self.now))) }
     {
-        let depth = self.depth();
-        if depth == 0 {
-            return None;
-        }
-        Some(self.prefix(depth - 1))
+        let fewer = self.depth().checked_sub(1)?;
+        Some(self.prefix(fewer))
     }
 
     // The last name; of the root, nothing.
@@ -87,9 +79,9 @@ impl Path {
         scan::last_piece(self.as_bytes())
     }
 
-    // What is wrong with `name` as one more name.
-    fn child_fault(&self, name: &[u8]) -> Option<PathFault>
-        ensures { result ≡ child_fault (names self.now) name.now }
+    // Judges `name` as one more name.
+    fn check_child(&self, name: &[u8]) -> Result<(), PathFault>
+        ensures { Checked (child_fault (names self.now) name.now) result }
     {
         let whole = if self.len == 0 {
             name.len()
@@ -97,16 +89,9 @@ impl Path {
             self.len + 1 + name.len()
         };
         if whole > 120 {
-            return Some(PathFault::TooLong);
+            return Err(PathFault::TooLong);
         }
-        let depth = self.depth();
-        if depth == 8 {
-            return Some(PathFault::TooDeep);
-        }
-        if !scan::good_name(name) {
-            return Some(PathFault::BadName(depth as u8));
-        }
-        None
+        scan::check_name(self.depth(), name)
     }
 
     fn extended(&self, name: &[u8]) -> Path
@@ -119,16 +104,14 @@ impl Path {
         let mut held = self.bytes;
         held[n] = b'/';
         held[n + 1..end].copy_from_slice(name);
-        Path::of_good(&held[0..end])
+        Path::of_good(&held[..end])
     }
 
     // The path with one more name.
     pub fn child(&self, name: &[u8]) -> Result<Path, PathFault>
         ensures { Child self.now name.now result }
     {
-        if let Some(fault) = self.child_fault(name) {
-            return Err(fault);
-        }
+        self.check_child(name)?;
         if self.len == 0 {
             Ok(Path::of_good(name))
         } else {

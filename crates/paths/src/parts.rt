@@ -7,10 +7,7 @@ pub fn front_len(text: &[u8], separator: u8) -> usize
     ensures value { result ≡ length (front separator text.now) }
     ensures within { result ≤ length text.now }
 {
-    for (i, x) in text.iter().enumerate() {
-        if *x == separator {
-            return i;
-        }
-    }
-    text.len()
+    text.iter()
+        .position(|b| *b == separator)
+        .unwrap_or(text.len())
 }

@@ -1,6 +1,6 @@
 // The rule of names and paths, and what is told of a path by its bytes.
-ghost use Rattle.std.specs.Prelude.{◌≡◌, ◌≤◌, length, take};
-ghost use Rattle.paths.specs.Names.{split, join, last_name, plain, reserved, good_name, fault};
+ghost use Rattle.std.specs.Prelude.{◌≡◌, ◌≤◌, [], ◌∷◌, length, take};
+ghost use Rattle.paths.specs.Names.{split, join, last_name, plain, reserved, good_name, fault_in, fault, Checked};
 ghost use Rattle.paths.specs.Order.{weight, by_weight, goes_on};
 
 use crate::PathFault;
@@ -11,56 +11,49 @@ use std::cmp::Ordering;
 fn is_plain(n: &[u8]) -> bool
     ensures { result ≡ plain n.now }
 {
-    for x in n {
-        if *x == 0 || *x == b'/' {
-            return false;
-        }
-    }
-    true
+    n.iter().all(|b| *b != 0 && *b != b'/')
 }
 
 // Names that directories and layer files keep for themselves.
 fn is_reserved(n: &[u8]) -> bool
     ensures { result ≡ reserved n.now }
 {
-    match n {
-        [b'.'] => true,
-        [b'.', b'.'] => true,
-        [b'.', b'w', b'h', b'.', ..] => true,
-        _ => false,
-    }
+    matches!(n, b"." | b"..") || n.starts_with(b".wh.")
 }
 
 pub(crate) fn good_name(n: &[u8]) -> bool
     ensures { result ≡ good_name n.now }
 {
-    n.len() >= 1 && n.len() <= 40 && is_plain(n) && !is_reserved(n)
+    (1..=40).contains(&n.len()) && is_plain(n) && !is_reserved(n)
 }
 
-// What is wrong with a text as a path.
-pub(crate) fn fault_of(bytes: &[u8]) -> Option<PathFault>
-    ensures { result ≡ fault bytes.now }
+// Judges one name that stands behind `count` others.
+pub(crate) fn check_name(count: usize, name: &[u8]) -> Result<(), PathFault>
+    ensures { Checked (fault_in count (name.now ∷ [])) result }
+{
+    if count >= 8 {
+        Err(PathFault::TooDeep)
+    } else if good_name(name) {
+        Ok(())
+    } else {
+        Err(PathFault::BadName(count as u8))
+    }
+}
+
+// Judges a text as a path.
+pub(crate) fn check(bytes: &[u8]) -> Result<(), PathFault>
+    ensures { Checked (fault bytes.now) result }
 {
     if bytes.len() > 120 {
-        return Some(PathFault::TooLong);
+        return Err(PathFault::TooLong);
     }
     if bytes.is_empty() {
-        return None;
+        return Ok(());
     }
-    let mut rest = bytes;
-    let mut count: u8 = 0;
-    while count < 8 {
-        let end = front_len(rest, b'/');
-        if !good_name(&rest[0..end]) {
-            return Some(PathFault::BadName(count));
-        }
-        if end == rest.len() {
-            return None;
-        }
-        rest = &rest[end + 1..];
-        count += 1;
+    for (count, name) in bytes.split(|b| *b == b'/').enumerate() {
+        check_name(count, name)?;
     }
-    Some(PathFault::TooDeep)
+    Ok(())
 }
 
 // What a byte counts in path order: `/` ends a name, so it comes before every byte of one.
@@ -118,13 +111,7 @@ pub(crate) fn count_names(s: &[u8]) -> usize
     if s.is_empty() {
         return 0;
     }
-    let mut n = 0;
-    for x in s {
-        if *x == b'/' {
-            n += 1;
-        }
-    }
-    n + 1
+    s.iter().filter(|b| **b == b'/').count() + 1
 }
 
 // The length of the first `k` names, with the `/` between them.

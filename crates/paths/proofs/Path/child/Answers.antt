@@ -9,27 +9,27 @@ pub of_good-requires : goal.of_good-requires
 of_good-requires c =
     let p = c.args.self.now in
     let l : length (text p) ≡ p.len = length-take-le p.len p.bytes (omega arith) in
-    (child_root (text p) c.args.name.now p.sound (sym c.in_default.ensures) (l ∙ c.if-self-eq0.true)).0
+    (child_root (text p) c.args.name.now p.sound c.in_ok-check_child.ensures (l ∙ c.if-self-eq0.true)).0
 
 pub extended-requires : goal.extended-requires
 extended-requires c =
     let p = c.args.self.now in
     let l : length (text p) ≡ p.len = length-take-le p.len p.bytes (omega arith) in
-    let h = child_more (text p) c.args.name.now p.sound (sym c.in_default.ensures) (omega arith) in
+    let h = child_more (text p) c.args.name.now p.sound c.in_ok-check_child.ensures (omega arith) in
     record { fits = omega arith; sound = h.1 }
 
 pub returns-then-self-eq0 : goal.returns-then-self-eq0
 returns-then-self-eq0 c =
     let p = c.args.self.now in
     let l : length (text p) ≡ p.len = length-take-le p.len p.bytes (omega arith) in (
-      sym c.in_default.ensures,
-      ap split c.of_good.ensures ∙ (child_root (text p) c.args.name.now p.sound (sym c.in_default.ensures) (l ∙ c.if-self-eq0.true)).1,
+      c.in_ok-check_child.ensures,
+      ap split c.of_good.ensures ∙ (child_root (text p) c.args.name.now p.sound c.in_ok-check_child.ensures (l ∙ c.if-self-eq0.true)).1,
     )
 
 pub returns-else-self-eq0 : goal.returns-else-self-eq0
 returns-else-self-eq0 c =
     let p = c.args.self.now in
     let l : length (text p) ≡ p.len = length-take-le p.len p.bytes (omega arith) in (
-      sym c.in_default.ensures,
-      ap split c.extended.ensures ∙ (child_more (text p) c.args.name.now p.sound (sym c.in_default.ensures) (omega arith)).2,
+      c.in_ok-check_child.ensures,
+      ap split c.extended.ensures ∙ (child_more (text p) c.args.name.now p.sound c.in_ok-check_child.ensures (omega arith)).2,
     )

@@ -1,18 +1,15 @@
-use Rattle.std.proofs.Common.{arith}
-use Rattle.paths.proofs.Fronts.{front-here, front_on, front_out}
+use Rattle.std.proofs.Common.{◌≡◌, length, sym, refl, ap, ◌∙◌, rules, add-one}
+use Rattle.std.proofs.lemmas.Iterator.{YieldsList-from_slice, IsFirst-from_position, index_from_first}
+use borrow.Author.Tests.{tests}
+use Rattle.paths.specs.Pieces.{front}
+use Rattle.paths.proofs.Fronts.{front_stop, front_go}
 use Rattle.paths.proofs.parts.front_len.Goals as goal
 
-pub returns-then-x-separator : goal.returns-then-x-separator
-returns-then-x-separator c =
-    let h = front-here c.args.separator c.args.text.now c.loop-i.i c.loop-i-test.true c.if-x-separator.true in
-    record { value = omega arith; within = omega arith }
-
-pub loop-i-preserved : goal.loop-i-preserved
-loop-i-preserved c =
-    let h = front_on c.args.separator c.args.text.now c.loop-i.i c.loop-i-test.true c.if-x-separator.false in
-    omega arith
-
-pub returns : goal.returns
-returns c =
-    let h = front_out c.args.separator c.args.text.now c.loop-i.i c.loop-i-test.false in
-    record { value = omega arith; within = omega arith }
+pub returns-clause-value : goal.returns-clause-value
+returns-clause-value c =
+    let sep = c.args.separator in
+    let s = c.args.text.now in
+    c.unwrap_or.ensures ∙ sym (index_from_first (λ s. length (front sep s)) (λ b. b ≡ sep) (λ b. b ≡ sep → ⊥) refl
+      (λ b bs e. ap length (front_stop sep b bs e))
+      (λ b bs n. ap length (front_go sep b bs n) ∙ sym (add-one _))
+      s _ (IsFirst-from_position _ _ _ (λ b. b ≡ sep) (λ b. b ≡ sep → ⊥) c.position.ensures.ran (YieldsList-from_slice s cc) (λ x q k. search (rules, tests)) (λ x q k. search (rules, tests))))

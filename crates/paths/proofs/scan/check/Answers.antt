@@ -1,0 +1,45 @@
+use Rattle.std.proofs.Common.{◌≡◌, ◌+◌, [], ◌∷◌, eqb, length, drop, None, Some, sym, ap, ◌∙◌, subst, arith, rules, false-eqb}
+use Rattle.std.proofs.lemmas.List.{length_push}
+use Rattle.std.proofs.lemmas.Result.{err_from_is_err_and}
+use Rattle.std.proofs.lemmas.Iterator.{YieldsList}
+use Rattle.std.proofs.lemmas.Iterator.Consumers.{YieldsList-turn, YieldsList-end, YieldsList-at, YieldsList-from_enumerate}
+use Rattle.std.proofs.lemmas.Iterator.Splits.{YieldsList-from_slice_split}
+use borrow.Author.Tests.{tests}
+use Rattle.paths.specs.Pieces.{pieces}
+use Rattle.paths.specs.Names.{fault_in, Checked}
+use Rattle.paths.proofs.Cuts.{placed, placed_turn, placed_end, fault_short, split-some}
+use Rattle.paths.proofs.Joins.{fault_on, fault_stop}
+use Rattle.paths.proofs.scan.check.Given as given
+use Rattle.paths.proofs.scan.check.Goals as goal
+use Rattle.paths.proofs.scan.check.Goals.{After-next}
+
+-- the loop goes through the names with their places
+road : (c : After-next) → YieldsList (given.iterator-loop-count).next_gives (λ p. (p.0, p.1.now)) c.into_iter-count-iterator.result (placed c.args.bytes.now)
+road c = YieldsList-at c.into_iter-count-iterator.ensures.into_iter_gives (YieldsList-from_enumerate (YieldsList-at c.enumerate-count-items.ensures.source (YieldsList-from_slice_split _ (λ b. eqb b 47) c.args.bytes.now c.split.ensures.rest c.split.ensures.done c.split.ensures.closure (λ x b q k. search (rules, tests)))) c.enumerate-count-items.ensures.count)
+
+pub loop-count-preserved : goal.loop-count-preserved
+loop-count-preserved c =
+    let s = c.args.bytes.now in
+    let k = length c.loop-count.yielded in
+    let n = c.in-Some.name.now in
+    let turn = YieldsList-turn (road (goal.at.loop-count-preserved c).After-next) c.loop-count.yielded c.loop-count.count-iterator c.loop-count.yielded_by c.next.result c.next.new.self (c.in-Some.count, c.in-Some.name) c.in-Some.is c.next.ensures.steps in
+    let t = placed_turn s k c.in-Some.count n turn.0 turn.1 in
+    let good = subst (λ i. fault_in i (n ∷ []) ≡ None) t.0 c.in_ok-check_name.ensures in
+    rw (length_push c.loop-count.yielded (c.in-Some.count, c.in-Some.name)) (c.loop-count.invariant ∙ ap (fault_in k) t.1 ∙ fault_on k n (drop (k + 1) (pieces 47 s)) good)
+
+pub returns-in_err-check_name : goal.returns-in_err-check_name
+returns-in_err-check_name c =
+    let s = c.args.bytes.now in
+    let k = length c.loop-count.yielded in
+    let n = c.in-Some.name.now in
+    let turn = YieldsList-turn (road (goal.at.returns-in_err-check_name c).After-next) c.loop-count.yielded c.loop-count.count-iterator c.loop-count.yielded_by c.next.result c.next.new.self (c.in-Some.count, c.in-Some.name) c.in-Some.is c.next.ensures.steps in
+    let t = placed_turn s k c.in-Some.count n turn.0 turn.1 in
+    let e = c.in_err-check_name.field-0.0 in
+    let bad = subst (λ i. fault_in i (n ∷ []) ≡ Some e) t.0 c.in_err-check_name.ensures in
+    let p = err_from_is_err_and c.from_residual.result c.from_residual.ensures.1 in
+    rw (p.1, p.2) (c.loop-count.invariant ∙ ap (fault_in k) t.1 ∙ fault_stop k n (drop (k + 1) (pieces 47 s)) e bad)
+
+pub returns : goal.returns
+returns c =
+    let end = YieldsList-end (road (goal.at.returns c).After-next) c.loop-count.yielded c.loop-count.count-iterator c.loop-count.yielded_by c.next.result c.next.new.self c.in-None.is c.next.ensures.steps in
+    c.loop-count.invariant ∙ ap (fault_in (length c.loop-count.yielded)) (placed_end c.args.bytes.now _ end.1)
