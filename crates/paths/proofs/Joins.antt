@@ -43,7 +43,7 @@ pieces-append (b ∷ bs) s = go (eqb b 47) (pieces-append bs s) where
   go true h = ap (λ l. [] ∷ l) h
   go false h = cc
 
-head_more : (b : ℕ) (bs : List ℕ) → pieces 47 bs ≡ bs ∷ [] → ◌≡◌ {A = List (List ℕ)} ((b ∷ front 47 bs) ∷ later 47 bs) ((b ∷ bs) ∷ [])
+pub head_more : (b : ℕ) (bs : List ℕ) → pieces 47 bs ≡ bs ∷ [] → ◌≡◌ {A = List (List ℕ)} ((b ∷ front 47 bs) ∷ later 47 bs) ((b ∷ bs) ∷ [])
 head_more b bs h = cc
 
 pub pieces-plain : (n : List ℕ) → plain n ≡ true → pieces 47 n ≡ n ∷ []

@@ -1,83 +1,34 @@
 -- What one turn of the loops over texts keeps. Assumes nothing.
-use Rattle.std.proofs.Common.{◌≡◌, ℕ, zero, suc, ◌+◌, ◌-◌, ◌<◌, ◌≤◌, Bool, true, false, ◌&&◌, eqb, ltb, List, [], ◌∷◌, ◌++◌, length, get_or, take, drop, set, replicate, Less, Equal, Greater, sym, refl, ap, ◌∙◌, arith}
+use Rattle.std.proofs.Common.{◌≡◌, ℕ, zero, suc, ◌+◌, ◌-◌, ◌<◌, ◌≤◌, Bool, true, false, ◌&&◌, eqb, ltb, List, [], ◌∷◌, ◌++◌, length, get_or, take, drop, set, replicate, Less, Equal, Greater, take-append-drop, sym, refl, ap, ◌∙◌, arith}
 use native.Mathlib.Nat.{sub-zero}
-use Rattle.std.proofs.lemmas.List.{drop_more, drop_all, drop_at, take_at, drop-replicate, take_all, take_more_set, length-set, append_assoc, length-append, length-drop, length-replicate}
+use Rattle.std.proofs.lemmas.List.{drop_more, drop_all, drop_at, take_at, drop-replicate, take_all, take_more_set, length-set, append_assoc, length-append, length-drop, length-replicate, get_or-drop}
 use Rattle.std.proofs.lemmas.Slice.{take-put_mid}
 use borrow.Rule.Slice.PartMut.{put_mid}
-use Rattle.std.proofs.lemmas.Bool.{cond-true, cond-false, eq-eqb, ne_eqb, lt-ltb, le-ltb}
+use Rattle.std.proofs.lemmas.Bool.{and_parts, true≢false, eqb-true, eqb-false, eq-eqb, ne_eqb}
+use Rattle.std.specs.Cmp.Lexicographic.{pointwise}
 use Rattle.std.specs.Ordering.{ordering_then, nat_cmp}
 use Rattle.paths.specs.Pieces.{front, later, pieces}
 use Rattle.paths.specs.Names.{split, join, last_name}
 use Rattle.paths.specs.Order.{weight, by_weight, goes_on}
 use Rattle.paths.proofs.Fronts.{later_stop, later_go, front_stop, front_go, cut_later, later-none, take-front}
-use Rattle.paths.proofs.Joins.{join-cons}
+use Rattle.paths.proofs.Joins.{join-cons, head_more, pieces-append}
 
--- ---- comparing
+-- ---- a text that goes on
 
-rank_less : (x y : ℕ) → x < y → nat_cmp x y ≡ Less
-rank_less x y h = cond-true (ltb x y) _ _ (lt-ltb x y h)
+pub goes_rest : (a b : List ℕ) → pointwise eqb (take (length a) b) a ≡ true → goes_on a b ≡ goes_on [] (drop (length a) b)
+goes_rest [] b h = refl
+goes_rest (x ∷ a) [] h = absurd (true≢false (sym h))
+goes_rest (x ∷ a) (y ∷ b) h =
+    let p = and_parts (eqb y x) (pointwise eqb (take (length a) b) a) h in
+    ap (λ t. t && goes_on a b) (eq-eqb x y (sym (eqb-true y x p.0))) ∙ goes_rest a b p.1
 
-rank_more : (x y : ℕ) → y < x → nat_cmp x y ≡ Greater
-rank_more x y h = cond-false (ltb x y) _ _ (le-ltb x y (omega arith)) ∙ cond-false (eqb x y) _ _ (ne_eqb x y (omega arith))
-
-rank_same : (x y : ℕ) → x ≡ y → nat_cmp x y ≡ Equal
-rank_same x y h = cond-false (ltb x y) _ _ (le-ltb x y (omega arith)) ∙ cond-true (eqb x y) _ _ (eq-eqb x y h)
-
-module _ (a b : List ℕ) (i : ℕ) where
-  both_more : i < length a → i < length b → by_weight (drop i a) (drop i b) ≡ ordering_then (nat_cmp (weight (get_or a i 0)) (weight (get_or b i 0))) (by_weight (drop (i + 1) a) (drop (i + 1) b))
-  both_more p q = λ j. by_weight (drop_more a i 0 p j) (drop_more b i 0 q j)
-
-  pub compare_less : i < length a → i < length b → weight (get_or a i 0) < weight (get_or b i 0) → by_weight (drop i a) (drop i b) ≡ Less
-  compare_less p q h = both_more p q ∙ ap (λ k. ordering_then k (by_weight (drop (i + 1) a) (drop (i + 1) b))) (rank_less _ _ h)
-
-  pub compare_more : i < length a → i < length b → weight (get_or b i 0) < weight (get_or a i 0) → by_weight (drop i a) (drop i b) ≡ Greater
-  compare_more p q h = both_more p q ∙ ap (λ k. ordering_then k (by_weight (drop (i + 1) a) (drop (i + 1) b))) (rank_more _ _ h)
-
-  pub compare_on : i < length a → i < length b → weight (get_or a i 0) ≡ weight (get_or b i 0) → by_weight (drop i a) (drop i b) ≡ by_weight (drop (i + 1) a) (drop (i + 1) b)
-  compare_on p q h = both_more p q ∙ ap (λ k. ordering_then k (by_weight (drop (i + 1) a) (drop (i + 1) b))) (rank_same _ _ h)
-
-  pub compare_long : i < length a → length b ≤ i → by_weight (drop i a) (drop i b) ≡ Greater
-  compare_long p q = λ j. by_weight (drop_more a i 0 p j) (drop_all i b q j)
-
-  pub compare_short : length a ≤ i → i < length b → by_weight (drop i a) (drop i b) ≡ Less
-  compare_short p q = λ j. by_weight (drop_all i a p j) (drop_more b i 0 q j)
-
-  pub compare_both : length a ≤ i → length b ≤ i → by_weight (drop i a) (drop i b) ≡ Equal
-  compare_both p q = λ j. by_weight (drop_all i a p j) (drop_all i b q j)
-
-  pub goes_differ : i < length a → i < length b → (get_or a i 0 ≡ get_or b i 0 → ⊥) → goes_on (drop i a) (drop i b) ≡ false
-  goes_differ p q h =
-      (λ j. goes_on (drop_more a i 0 p j) (drop_more b i 0 q j)) ∙ ap (λ t. t && goes_on (drop (i + 1) a) (drop (i + 1) b)) (ne_eqb _ _ h)
-
-  pub goes_same : i < length a → i < length b → get_or a i 0 ≡ get_or b i 0 → goes_on (drop i a) (drop i b) ≡ goes_on (drop (i + 1) a) (drop (i + 1) b)
-  goes_same p q h =
-      (λ j. goes_on (drop_more a i 0 p j) (drop_more b i 0 q j)) ∙ ap (λ t. t && goes_on (drop (i + 1) a) (drop (i + 1) b)) (eq-eqb _ _ h)
-
-  pub goes_end : length a ≤ i → length b ≤ i → goes_on (drop i a) (drop i b) ≡ true
-  goes_end p q = λ j. goes_on (drop_all i a p j) (drop_all i b q j)
-
-  pub goes_past : length a ≤ i → i < length b → goes_on (drop i a) (drop i b) ≡ eqb (get_or b i 0) 47
-  goes_past p q = λ j. goes_on (drop_all i a p j) (drop_more b i 0 q j)
-
-pub goes_short : (a b : List ℕ) → length b < length a → goes_on a b ≡ false
-goes_short [] b h = absurd (omega arith)
-goes_short (x ∷ a) [] h = refl
-goes_short (x ∷ a) (y ∷ b) h = ap (λ t. eqb x y && t) (goes_short a b (omega arith)) ∙ no (eqb x y) where
-  no : (t : Bool) → (t && false) ≡ false
-  no true = refl
-  no false = refl
-
--- ---- counting names
-
-module _ (s : List ℕ) (i : ℕ) where
-  pub count_slash : i < length s → get_or s i 0 ≡ 47 → length (later 47 (drop i s)) ≡ suc (length (later 47 (drop (i + 1) s)))
-  count_slash p e = ap (λ l. length (later 47 l)) (drop_more s i 0 p) ∙ ap length (later_stop 47 (get_or s i 0) (drop (i + 1) s) e)
-
-  pub count_on : i < length s → (get_or s i 0 ≡ 47 → ⊥) → length (later 47 (drop i s)) ≡ length (later 47 (drop (i + 1) s))
-  count_on p e = ap (λ l. length (later 47 l)) (drop_more s i 0 p) ∙ ap length (later_go 47 (get_or s i 0) (drop (i + 1) s) e)
-
-  pub count_out : length s ≤ i → length (later 47 (drop i s)) ≡ 0
-  count_out p = ap (λ l. length (later 47 l)) (drop_all i s p)
+pub goes_off : (a b : List ℕ) → pointwise eqb (take (length a) b) a ≡ false → goes_on a b ≡ false
+goes_off [] b h = absurd (true≢false h)
+goes_off (x ∷ a) [] h = refl
+goes_off (x ∷ a) (y ∷ b) h = go (eqb y x) refl (goes_off a b) h where
+  go : (t : Bool) → eqb y x ≡ t → (pointwise eqb (take (length a) b) a ≡ false → goes_on a b ≡ false) → (t && pointwise eqb (take (length a) b) a) ≡ false → (eqb x y && goes_on a b) ≡ false
+  go true e more g = ap (λ t. t && goes_on a b) (eq-eqb x y (sym (eqb-true y x e))) ∙ more g
+  go false e more g = ap (λ t. t && goes_on a b) (ne_eqb x y (λ z. eqb-false y x e (sym z)))
 
 -- ---- where the k-th name ends
 
@@ -139,13 +90,28 @@ pub last_split : (s : List ℕ) → last_name (split s) ≡ last_name (pieces 47
 last_split [] = refl
 last_split (b ∷ bs) = refl
 
-module _ (s : List ℕ) (e : ℕ) (is : e ≡ length (front 47 s)) where
-  pub last_on : e < length s → last_name (pieces 47 s) ≡ last_name (pieces 47 (take (length s - (e + 1)) (drop (e + 1) s)))
-  last_on lt = ap (λ l. last_name (front 47 s ∷ l)) (cut_later 47 s e is lt)
+-- with no `/` there is one piece
+pub pieces_whole : (s : List ℕ) → ((k : ℕ) → k < length s → get_or s k 0 ≡ 47 → ⊥) → pieces 47 s ≡ s ∷ []
+pieces_whole [] h = refl
+pieces_whole (b ∷ bs) h =
+    let n : b ≡ 47 → ⊥ = h 0 (omega arith) in
+    let whole = pieces_whole bs (λ k lt. h (suc k) (omega arith)) in
+    (λ j. front_go 47 b bs n j ∷ later_go 47 b bs n j) ∙ head_more b bs whole
 
-  pub last_here : e ≡ length s → last_name (pieces 47 s) ≡ s
-  last_here h =
-      ap (λ l. last_name (front 47 s ∷ l)) (later-none 47 s (sym is ∙ h)) ∙ sym (take-front 47 s) ∙ ap (λ n. take n s) (sym is) ∙ take_all e s (omega arith)
+last_behind : (ps : List (List ℕ)) (n : List ℕ) → last_name (ps ++ n ∷ []) ≡ n
+last_behind [] n = refl
+last_behind (p ∷ []) n = refl
+last_behind (p ∷ q ∷ ps) n = last_behind (q ∷ ps) n
+
+pub last_none : (s : List ℕ) → ((k : ℕ) → k < length s → get_or s k 0 ≡ 47 → ⊥) → last_name (split s) ≡ s
+last_none s h = last_split s ∙ ap last_name (pieces_whole s h)
+
+pub last_at : (s : List ℕ) (i : ℕ) → i < length s → get_or s i 0 ≡ 47 → ((k : ℕ) → i + 1 ≤ k → k < length s → get_or s k 0 ≡ 47 → ⊥) → last_name (split s) ≡ drop (i + 1) s
+last_at s i lt e h =
+    let rest = drop (i + 1) s in
+    let cut : s ≡ take i s ++ 47 ∷ rest = sym (take-append-drop i s) ∙ ap (λ l. take i s ++ l) (drop_more s i 0 lt ∙ ap (λ b. b ∷ rest) e) in
+    let whole = pieces_whole rest (λ k inside z. h (i + 1 + k) (omega arith) (omega (arith, length-drop (i + 1) s)) (sym (get_or-drop (i + 1) s k 0) ∙ z)) in
+    last_split s ∙ ap (λ l. last_name (pieces 47 l)) cut ∙ ap last_name (pieces-append (take i s) rest ∙ ap (λ ps. pieces 47 (take i s) ++ ps) whole) ∙ last_behind (pieces 47 (take i s)) rest
 
 -- ---- a text in an array
 

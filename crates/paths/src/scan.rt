@@ -57,51 +57,31 @@ pub(crate) fn check(bytes: &[u8]) -> Result<(), PathFault>
 }
 
 // What a byte counts in path order: `/` ends a name, so it comes before every byte of one.
-fn weight_of(b: u8) -> u8
-    ensures { result ≡ weight b }
+fn weight_of(b: &u8) -> u8
+    ensures { result ≡ weight b.now }
 {
-    if b == b'/' { 0 } else { b }
+    if *b == b'/' { 0 } else { *b }
 }
 
 // The order of two texts, with `/` read as 0.
 pub(crate) fn compare_texts(a: &[u8], b: &[u8]) -> Ordering
     ensures { result ≡ by_weight a.now b.now }
 {
-    let mut i = 0;
-    while i < a.len() && i < b.len() {
-        let x = weight_of(a[i]);
-        let y = weight_of(b[i]);
-        if x < y {
-            return Ordering::Less;
-        }
-        if y < x {
-            return Ordering::Greater;
-        }
-        i += 1;
-    }
-    if i < a.len() {
-        Ordering::Greater
-    } else if i < b.len() {
-        Ordering::Less
-    } else {
-        Ordering::Equal
-    }
+    a.iter().map(weight_of).cmp(b.iter().map(weight_of))
+}
+
+// Whether a name ends before this text: there is no more, or a `/`.
+fn name_ends(rest: &[u8]) -> bool
+    ensures { result ≡ goes_on [] rest.now }
+{
+    matches!(rest, [] | [b'/', ..])
 }
 
 // Whether `b` is `a`, or goes on with a `/`.
 pub(crate) fn goes_on(a: &[u8], b: &[u8]) -> bool
     ensures { result ≡ goes_on a.now b.now }
 {
-    let n = a.len();
-    if b.len() < n {
-        return false;
-    }
-    for i in 0..n {
-        if a[i] != b[i] {
-            return false;
-        }
-    }
-    if n == b.len() { true } else { b[n] == b'/' }
+    b.strip_prefix(a).is_some_and(name_ends)
 }
 
 // How many names a text has.
@@ -138,12 +118,8 @@ pub(crate) fn prefix_end(s: &[u8], k: usize) -> usize
 pub(crate) fn last_piece(s: &[u8]) -> &[u8]
     ensures { result.now ≡ last_name (split s.now) }
 {
-    let mut rest = s;
-    loop {
-        let end = front_len(rest, b'/');
-        if end == rest.len() {
-            return rest;
-        }
-        rest = &rest[end + 1..];
+    match s.iter().rposition(|b| *b == b'/') {
+        Some(i) => &s[i + 1..],
+        None => s,
     }
 }

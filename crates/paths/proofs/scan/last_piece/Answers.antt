@@ -1,12 +1,12 @@
-use Rattle.std.proofs.Common.{sym, ◌∙◌, arith, length-drop, length-take}
-use Rattle.paths.proofs.Steps.{last_split, last_on, last_here}
+use Rattle.std.proofs.Common.{◌+◌, sym, ◌∙◌, arith, rules}
+use Rattle.std.proofs.lemmas.List.{take_rest}
+use Rattle.paths.proofs.Steps.{last_none, last_at}
 use Rattle.paths.proofs.scan.last_piece.Goals as goal
 
-pub returns-then-end-rest : goal.returns-then-end-rest
-returns-then-end-rest c =
-    let s = c.loop-rest.rest.now in
-    sym (last_split c.args.s.now ∙ c.loop-rest.invariant.1 ∙ last_here s _ c.front_len-end.ensures.value c.if-end-rest.true)
+pub returns-in-Some : goal.returns-in-Some
+returns-in-Some c =
+    let s = c.args.s.now in
+    take_rest s (c.in-Some.i + 1) ∙ sym (last_at s c.in-Some.i (search rules) (search rules) (search rules))
 
-pub loop-rest-preserved : goal.loop-rest-preserved
-loop-rest-preserved c =
-    (simp (length-take, length-drop) (omega arith), c.loop-rest.invariant.1 ∙ last_on c.loop-rest.rest.now _ c.front_len-end.ensures.value (omega arith))
+pub returns-in-None : goal.returns-in-None
+returns-in-None c = sym (last_none c.args.s.now (search rules))
