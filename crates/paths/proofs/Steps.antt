@@ -1,10 +1,12 @@
 -- What one turn of the loops over texts keeps. Assumes nothing.
-use Rattle.std.proofs.Common.{◌≡◌, ℕ, zero, suc, ◌+◌, ◌-◌, ◌<◌, ◌≤◌, Bool, true, false, ◌&&◌, eqb, ltb, List, [], ◌∷◌, ◌++◌, length, get_or, take, drop, set, replicate, Less, Equal, Greater, take-append-drop, sym, refl, ap, ◌∙◌, arith}
+use Rattle.std.proofs.Common.{◌≡◌, ℕ, zero, suc, Option, ◌+◌, ◌-◌, ◌<◌, ◌≤◌, Bool, true, false, cond, ◌&&◌, eqb, ltb, List, [], ◌∷◌, ◌++◌, length, get_or, take, drop, set, replicate, Less, Equal, Greater, take-append-drop, sym, refl, ap, ◌∙◌, arith}
 use native.Mathlib.Nat.{sub-zero}
 use Rattle.std.proofs.lemmas.List.{drop_more, drop_all, drop_at, take_at, drop-replicate, take_all, take_more_set, length-set, append_assoc, length-append, length-drop, length-replicate, get_or-drop}
 use Rattle.std.proofs.lemmas.Slice.{take-put_mid}
 use borrow.Rule.Slice.PartMut.{put_mid}
 use Rattle.std.proofs.lemmas.Bool.{and_parts, true≢false, eqb-true, eqb-false, eq-eqb, ne_eqb}
+use Rattle.std.specs.List.{filter, enumerate_from, slice_get}
+use Rattle.std.specs.Option.{option_map, unwrap_or}
 use Rattle.std.specs.Cmp.Lexicographic.{pointwise}
 use Rattle.std.specs.Ordering.{ordering_then, nat_cmp}
 use Rattle.paths.specs.Pieces.{front, later, pieces}
@@ -36,47 +38,33 @@ goes_off (x ∷ a) (y ∷ b) h = go (eqb y x) refl (goes_off a b) h where
 abbrev pub span : ℕ → List ℕ → ℕ
 span k s = length (join (take k (pieces 47 s)))
 
-span_slash_last : (bs : List ℕ) → (b : ℕ) → b ≡ 47 → span 1 (b ∷ bs) ≡ 0
-span_slash_last bs b e = ap (λ n. length (join (take 1 (n ∷ later 47 (b ∷ bs))))) (front_stop 47 b bs e)
+span_stop : (b : ℕ) (bs : List ℕ) (n : ℕ) → b ≡ 47 → span (suc (suc n)) (b ∷ bs) ≡ suc (span (suc n) bs)
+span_stop b bs n e = λ j. length (join (take (suc (suc n)) (front_stop 47 b bs e j ∷ later_stop 47 b bs e j)))
 
-span_slash_more : (bs : List ℕ) (b m : ℕ) → b ≡ 47 → span (suc (suc m)) (b ∷ bs) ≡ suc (span (suc m) bs)
-span_slash_more bs b m e =
-    (λ j. length (join (take (suc (suc m)) (front_stop 47 b bs e j ∷ later_stop 47 b bs e j))))
+span_go : (b : ℕ) (bs : List ℕ) (n : ℕ) → (b ≡ 47 → ⊥) → span (suc n) (b ∷ bs) ≡ suc (span (suc n) bs)
+span_go b bs n e =
+    (λ j. length (join (take (suc n) (front_go 47 b bs e j ∷ later_go 47 b bs e j)))) ∙ ap length (join-cons b (front 47 bs) (take n (later 47 bs)))
 
-span_go : (bs : List ℕ) (b m : ℕ) → (b ≡ 47 → ⊥) → span (suc m) (b ∷ bs) ≡ suc (span (suc m) bs)
-span_go bs b m n =
-    (λ j. length (join (take (suc m) (front_go 47 b bs n j ∷ later_go 47 b bs n j)))) ∙ ap length (join-cons b (front 47 bs) (take m (later 47 bs)))
+-- the places of the bytes `/`, where the first byte stands at i
+abbrev pub slashes : ℕ → List ℕ → List (ℕ × ℕ)
+slashes i s = filter (λ p. eqb p.1 47) (enumerate_from i s)
 
-above_zero : (k : ℕ) → 0 < k → (m : ℕ) × (k ≡ suc m)
-above_zero zero h = absurd (omega arith)
-above_zero (suc m) h = (m, refl)
+abbrev pub place_or : ℕ → Option (ℕ × ℕ) → ℕ
+place_or d o = unwrap_or (option_map (λ p. p.0) o) d
 
-above_one : (k : ℕ) → 1 < k → (m : ℕ) × (k ≡ suc (suc m))
-above_one zero h = absurd (omega arith)
-above_one (suc zero) h = absurd (omega arith)
-above_one (suc (suc m)) h = (m, refl)
+pub span_place : (s : List ℕ) (n i : ℕ) → place_or (i + length s) (slice_get (slashes i s) n) ≡ i + span (suc n) s
+span_place [] zero i = refl
+span_place [] (suc n) i = refl
+span_place (b ∷ bs) n i = go (eqb b 47) refl (λ m. span_place bs m (i + 1)) n where
+  shift : (m : ℕ) → i + suc m ≡ i + 1 + m
+  shift m = omega arith
 
-module _ (s : List ℕ) (i k : ℕ) where
-  pub span-here : i < length s → get_or s i 0 ≡ 47 → k ≡ 1 → span k (drop i s) ≡ 0
-  span-here p e one = (λ j. span (one j) (drop_more s i 0 p j)) ∙ span_slash_last (drop (i + 1) s) (get_or s i 0) e
-
-  pub span_next : i < length s → get_or s i 0 ≡ 47 → 1 < k → span k (drop i s) ≡ suc (span (k - 1) (drop (i + 1) s))
-  span_next p e more =
-      let m = above_one k more in
-      let less : suc m.0 ≡ k - 1 = omega (arith, m.1) in
-      (λ j. span (m.1 j) (drop_more s i 0 p j)) ∙ span_slash_more (drop (i + 1) s) (get_or s i 0) m.0 e ∙ ap (λ x. suc (span x (drop (i + 1) s))) less
-
-  pub span_on : i < length s → (get_or s i 0 ≡ 47 → ⊥) → 0 < k → span k (drop i s) ≡ suc (span k (drop (i + 1) s))
-  span_on p e more =
-      let m = above_zero k more in
-      (λ j. span (m.1 j) (drop_more s i 0 p j)) ∙ span_go (drop (i + 1) s) (get_or s i 0) m.0 e ∙ ap (λ x. suc (span x (drop (i + 1) s))) (sym m.1)
-
-  pub span_out : length s ≤ i → span k (drop i s) ≡ 0
-  span_out p = ap (span k) (drop_all i s p) ∙ none k where
-    none : (x : ℕ) → span x [] ≡ 0
-    none zero = refl
-    none (suc zero) = refl
-    none (suc (suc x)) = refl
+  go : (t : Bool) → eqb b 47 ≡ t → ((n : ℕ) → place_or (i + 1 + length bs) (slice_get (slashes (i + 1) bs) n) ≡ i + 1 + span (suc n) bs) → (n : ℕ) → place_or (i + suc (length bs)) (slice_get (cond t ((i, b) ∷ slashes (i + 1) bs) (slashes (i + 1) bs)) n) ≡ i + span (suc n) (b ∷ bs)
+  go true e more zero = omega (arith, ap length (front_stop 47 b bs (eqb-true b 47 e)))
+  go true e more (suc n) =
+      rw (shift (length bs)) (more n ∙ sym (shift (span (suc n) bs)) ∙ ap (λ m. i + m) (sym (span_stop b bs n (eqb-true b 47 e))))
+  go false e more n =
+      rw (shift (length bs)) (more n ∙ sym (shift (span (suc n) bs)) ∙ ap (λ m. i + m) (sym (span_go b bs n (eqb-false b 47 e))))
 
 pub span-split : (s : List ℕ) (k : ℕ) → length (join (take k (split s))) ≡ span k s
 span-split [] zero = refl

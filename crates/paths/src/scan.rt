@@ -99,19 +99,14 @@ pub(crate) fn prefix_end(s: &[u8], k: usize) -> usize
     ensures value { result ≡ length (join (take k (split s.now))) }
     ensures within { result ≤ length s.now }
 {
-    if k == 0 {
+    let Some(passed) = k.checked_sub(1) else {
         return 0;
-    }
-    let mut left = k;
-    for (i, x) in s.iter().enumerate() {
-        if *x == b'/' {
-            if left == 1 {
-                return i;
-            }
-            left -= 1;
-        }
-    }
-    s.len()
+    };
+    s.iter()
+        .enumerate()
+        .filter(|(_, b)| **b == b'/')
+        .nth(passed)
+        .map_or(s.len(), |(i, _)| i)
 }
 
 // What follows the last `/`, or all of a text with none.

@@ -1,34 +1,16 @@
-use Rattle.std.proofs.Common.{◌+◌, ◌<◌, drop, ap, arith}
-use Rattle.paths.proofs.Steps.{span, span-here, span_next, span_on, span_out, span-split}
+use Rattle.std.proofs.Common.{◌≡◌, suc, zero-add, length, take, eqb, sym, ap, ◌∙◌, arith, rules}
+use Rattle.std.specs.Option.{option_map}
+use Rattle.std.specs.List.{slice_get}
+use Rattle.std.proofs.lemmas.Iterator.{YieldsList-from_slice}
+use Rattle.std.proofs.lemmas.Iterator.Consumers.{YieldsList-at, YieldsList-from_enumerate, YieldsList-from_filter, nth_from_yields_List}
+use borrow.Author.Tests.{tests}
+use Rattle.paths.proofs.Steps.{span, place_or, span_place, span-split}
 use Rattle.paths.proofs.scan.prefix_end.Goals as goal
-use Rattle.paths.proofs.scan.prefix_end.Goals.{then-x-eq47+else-left-eq1, else-x-eq47}
 
-pub returns-then-left-eq1 : goal.returns-then-left-eq1
-returns-then-left-eq1 c =
+pub returns-clause-value : goal.returns-clause-value
+returns-clause-value c =
     let s = c.args.s.now in
-    let h = span-here s c.loop-i.i c.loop-i.left c.loop-i-test.true c.if-x-eq47.true c.if-left-eq1.true in
-    let w = span-split s c.args.k in
-    record { value = omega arith; within = omega arith }
-
-pub loop-i-preserved : goal.loop-i-preserved
-loop-i-preserved c =
-    let s = c.args.s.now in
-    let i = c.loop-i.i in
-    elim c.if-x-eq47.branch [
-      | then-x-eq47+else-left-eq1 w ↦
-          let more : 1 < c.loop-i.left = omega (arith, w.if-left-eq1.false) in
-          let h = span_next s i c.loop-i.left c.loop-i-test.true w.if-x-eq47.true more in
-          let e = ap (λ n. span n (drop (i + 1) s)) w.left-is in
-          (omega (arith, w.left-is), omega (arith, h, e))
-      | else-x-eq47 w ↦
-          let h = span_on s i c.loop-i.left c.loop-i-test.true w.if-x-eq47.false c.loop-i.invariant.0 in
-          let e = ap (λ n. span n (drop (i + 1) s)) w.left-is in
-          (omega (arith, w.left-is), omega (arith, h, e))
-    ]
-
-pub returns : goal.returns
-returns c =
-    let s = c.args.s.now in
-    let h = span_out s c.loop-i.i c.loop-i.left c.loop-i-test.false in
-    let w = span-split s c.args.k in
-    record { value = omega arith; within = omega arith }
+    let at = nth_from_yields_List c.nth.result _ c.in-Some.passed c.nth.ensures.ran (YieldsList-from_filter _ (λ p. eqb p.1 47) (YieldsList-at c.filter.ensures.source (YieldsList-from_enumerate (YieldsList-at c.enumerate.ensures.source (YieldsList-from_slice s cc)) c.enumerate.ensures.count)) c.filter.ensures.closure (λ x r q k. search (rules, tests))) in
+    let m : c.map_or.result ≡ place_or (length s) (option_map (λ p. (p.0, p.1.now)) c.nth.result) = search rules in
+    let k : suc c.in-Some.passed ≡ c.args.k = omega (arith, c.in-Some.ensures) in
+    m ∙ ap (place_or (length s)) at ∙ simp zero-add at (span_place s c.in-Some.passed 0) ∙ ap (λ n. span n s) k ∙ sym (span-split s c.args.k)
