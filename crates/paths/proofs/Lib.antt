@@ -1,5 +1,4 @@
 pub mod Fronts
-pub mod Cuts
 pub mod Joins
 pub mod Laws
 pub mod Steps

@@ -1,19 +1,35 @@
--- What one turn of the loops over texts keeps. Assumes nothing.
-use Rattle.std.proofs.Common.{◌≡◌, ℕ, zero, suc, Option, ◌+◌, ◌-◌, ◌<◌, ◌≤◌, Bool, true, false, cond, ◌&&◌, eqb, ltb, List, [], ◌∷◌, ◌++◌, length, get_or, take, drop, set, replicate, Less, Equal, Greater, take-append-drop, sym, refl, ap, ◌∙◌, arith}
-use native.Mathlib.Nat.{sub-zero}
-use Rattle.std.proofs.lemmas.List.{drop_more, drop_all, drop_at, take_at, drop-replicate, take_all, take_more_set, length-set, append_assoc, length-append, length-drop, length-replicate, get_or-drop}
+-- What the code finds in texts, and writes. Assumes nothing.
+use Rattle.std.proofs.Common.{◌≡◌, ℕ, zero, suc, Option, ◌+◌, ◌-◌, ◌<◌, ◌≤◌, Bool, true, false, cond, ◌&&◌, eqb, List, [], ◌∷◌, ◌++◌, length, get_or, take, drop, set, replicate, take-append-drop, sym, refl, ap, subst, ◌∙◌, arith}
+use Rattle.std.proofs.lemmas.List.{drop_more, drop_all, drop_at, drop-replicate, take_more_set, length-set, append_assoc, length-drop, get_or-drop}
 use Rattle.std.proofs.lemmas.Slice.{take-put_mid}
 use borrow.Rule.Slice.PartMut.{put_mid}
 use Rattle.std.proofs.lemmas.Bool.{and_parts, true≢false, eqb-true, eqb-false, eq-eqb, ne_eqb}
-use Rattle.std.specs.List.{filter, enumerate_from, slice_get}
+use Rattle.std.specs.List.{filter, enumerate_from, slice_split, slice_get}
 use Rattle.std.specs.Option.{option_map, unwrap_or}
 use Rattle.std.specs.Cmp.Lexicographic.{pointwise}
-use Rattle.std.specs.Ordering.{ordering_then, nat_cmp}
 use Rattle.paths.specs.Pieces.{front, later, pieces}
 use Rattle.paths.specs.Names.{split, join, last_name}
-use Rattle.paths.specs.Order.{weight, by_weight, goes_on}
-use Rattle.paths.proofs.Fronts.{later_stop, later_go, front_stop, front_go, cut_later, later-none, take-front}
+use Rattle.paths.specs.Order.{goes_on}
+use Rattle.std.proofs.lemmas.List.FromFn.{length-enumerate_from, get_or-enumerate_from}
+use Rattle.paths.proofs.Fronts.{split_pieces, later_stop, later_go, front_stop, front_go}
 use Rattle.paths.proofs.Joins.{join-cons, head_more, pieces-append}
+
+-- ---- the names with their places
+
+abbrev pub placed : List ℕ → List (ℕ × List ℕ)
+placed s = enumerate_from 0 (slice_split (λ b. eqb b 47) s)
+
+pub placed_turn : (s : List ℕ) (k i : ℕ) (n : List ℕ) → k < length (placed s) → ◌≡◌ {A = ℕ × List ℕ} (i, n) (get_or (placed s) k (i, n)) → (i ≡ k) × (drop k (pieces 47 s) ≡ n ∷ drop (k + 1) (pieces 47 s))
+placed_turn s k i n lt e =
+    let ps = slice_split (λ b. eqb b 47) s in
+    let l : k < length ps = omega (arith, length-enumerate_from 0 ps) in
+    let at = e ∙ get_or-enumerate_from 0 ps k (i, n) l in
+    let first : i ≡ k = omega (arith, ap (λ p. p.0) at) in
+    let here : drop k ps ≡ n ∷ drop (k + 1) ps = drop_more ps k n l ∙ ap (λ m. m ∷ drop (k + 1) ps) (sym (ap (λ p. p.1) at)) in
+    (first, subst (λ qs. drop k qs ≡ n ∷ drop (k + 1) qs) (split_pieces 47 s) here)
+
+pub placed_end : (s : List ℕ) (k : ℕ) → k ≡ length (placed s) → drop k (pieces 47 s) ≡ []
+placed_end s k e = drop_all k (pieces 47 s) (omega (arith, length-enumerate_from 0 (slice_split (λ b. eqb b 47) s), ap length (split_pieces 47 s)))
 
 -- ---- a text that goes on
 
@@ -103,17 +119,9 @@ last_at s i lt e h =
 
 -- ---- a text in an array
 
-module _ (bs ys : List ℕ) (is : ys ≡ bs) (fits : length bs ≤ 120) where
-  pub padded_text : take (length bs) (ys ++ drop (length bs) (replicate 120 0)) ≡ bs
-  padded_text = take_at ys (drop (length bs) (replicate 120 0)) (length bs) (ap length is) ∙ is
-
-  pub padded_wide : length (ys ++ drop (length bs) (replicate 120 0)) ≡ 120
-  padded_wide =
-      length-append ys (drop (length bs) (replicate 120 0)) ∙ simp (length-drop, length-replicate) (omega (arith, ap length is))
-
-  pub padded_rest : drop (length bs) (ys ++ drop (length bs) (replicate 120 0)) ≡ replicate (120 - length bs) 0
-  padded_rest =
-      drop_at ys (drop (length bs) (replicate 120 0)) (length bs) (ap length is) ∙ drop-replicate (length bs) 120 0
+pub padded_rest : (bs ys : List ℕ) → ys ≡ bs → drop (length bs) (ys ++ drop (length bs) (replicate 120 0)) ≡ replicate (120 - length bs) 0
+padded_rest bs ys is =
+    drop_at ys (drop (length bs) (replicate 120 0)) (length bs) (ap length is) ∙ drop-replicate (length bs) 120 0
 
 -- a text, a `/` and a name, written into an array
 module _ (bytes ys name : List ℕ) (n : ℕ) (is : ys ≡ name) (fits : n + 1 + length name ≤ length bytes) where

@@ -21,7 +21,8 @@ pub enum PathFault {
     TooDeep,
 }
 
-// A good path: its text, with zeros behind it, so that equal paths are equal values.
+// A good path: its text, with zeros behind it, so that equal paths are equal values. The length stands beside the
+// bytes, and no `ArrayVec` holds them: a path is `Copy`, and what stands behind a vector's items is not fixed.
 #[derive(Clone, Copy)]
 pub struct Path {
     bytes: [u8; 120],

@@ -94,6 +94,7 @@ impl Path {
         scan::check_name(self.depth(), name)
     }
 
+    // The path with a `/` and `name` behind its text.
     fn extended(&self, name: &[u8]) -> Path
         requires fits { self.now.len + 1 + length name.now ≤ 120 }
         requires sound { good (text self.now ++ 47 ∷ name.now) ≡ true }

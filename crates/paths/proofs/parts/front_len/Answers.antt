@@ -10,6 +10,6 @@ returns-clause-value c =
     let sep = c.args.separator in
     let s = c.args.text.now in
     c.unwrap_or.ensures ∙ sym (index_from_first (λ s. length (front sep s)) (λ b. b ≡ sep) (λ b. b ≡ sep → ⊥) refl
-      (λ b bs e. ap length (front_stop sep b bs e))
-      (λ b bs n. ap length (front_go sep b bs n) ∙ sym (add-one _))
-      s _ (IsFirst-from_position _ _ _ (λ b. b ≡ sep) (λ b. b ≡ sep → ⊥) c.position.ensures.ran (YieldsList-from_slice s cc) (λ x q k. search (rules, tests)) (λ x q k. search (rules, tests))))
+    (λ b bs e. ap length (front_stop sep b bs e))
+    (λ b bs n. ap length (front_go sep b bs n) ∙ sym (add-one _))
+    s _ (IsFirst-from_position _ _ _ (λ b. b ≡ sep) (λ b. b ≡ sep → ⊥) c.position.ensures.ran (YieldsList-from_slice s cc) (λ x q k. search (rules, tests)) (λ x q k. search (rules, tests))))

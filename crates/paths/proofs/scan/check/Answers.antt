@@ -1,4 +1,4 @@
-use Rattle.std.proofs.Common.{◌≡◌, ◌+◌, [], ◌∷◌, eqb, length, drop, None, Some, sym, ap, ◌∙◌, subst, arith, rules, false-eqb}
+use Rattle.std.proofs.Common.{◌≡◌, ◌+◌, [], ◌∷◌, eqb, length, drop, None, Some, ap, ◌∙◌, subst, rules}
 use Rattle.std.proofs.lemmas.List.{length_push}
 use Rattle.std.proofs.lemmas.Result.{err_from_is_err_and}
 use Rattle.std.proofs.lemmas.Iterator.{YieldsList}
@@ -6,8 +6,8 @@ use Rattle.std.proofs.lemmas.Iterator.Consumers.{YieldsList-turn, YieldsList-end
 use Rattle.std.proofs.lemmas.Iterator.Splits.{YieldsList-from_slice_split}
 use borrow.Author.Tests.{tests}
 use Rattle.paths.specs.Pieces.{pieces}
-use Rattle.paths.specs.Names.{fault_in, Checked}
-use Rattle.paths.proofs.Cuts.{placed, placed_turn, placed_end, fault_short, split-some}
+use Rattle.paths.specs.Names.{fault_in}
+use Rattle.paths.proofs.Steps.{placed, placed_turn, placed_end}
 use Rattle.paths.proofs.Joins.{fault_on, fault_stop}
 use Rattle.paths.proofs.scan.check.Given as given
 use Rattle.paths.proofs.scan.check.Goals as goal

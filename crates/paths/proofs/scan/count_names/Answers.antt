@@ -1,5 +1,5 @@
 use Rattle.std.proofs.Common.{◌≡◌, eqb, count_by, arith, rules, false-eqb}
-use Rattle.paths.proofs.Cuts.{split-some}
+use Rattle.paths.proofs.Joins.{split-some}
 use Rattle.paths.proofs.Fronts.{later_count}
 use Rattle.paths.proofs.scan.count_names.Goals as goal
 

@@ -1,4 +1,4 @@
-use Rattle.std.proofs.Common.{◌≡◌, ℕ, ◌≤◌, Bool, true, false, not, ◌&&◌, eqb, leb, List, ◌∷◌, rules, refl}
+use Rattle.std.proofs.Common.{◌≡◌, ℕ, Bool, true, false, not, ◌&&◌, eqb, leb, List, ◌∷◌, rules, refl}
 use Rattle.std.proofs.lemmas.List.Recursion.{and_is}
 use Rattle.paths.specs.Names.{plain}
 use Rattle.paths.proofs.scan.is_plain.Goals as goal

@@ -1,4 +1,4 @@
-use Rattle.std.proofs.Common.{rules, lit<}
+use Rattle.std.proofs.Common.{rules}
 use Rattle.std.proofs.lemmas.Fmt.{decimal_digit}
 use Rattle.paths.proofs.fault.PathFaultDisplay.fmt.Goals as goal
 
