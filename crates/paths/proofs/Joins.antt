@@ -1,6 +1,7 @@
 -- Texts and lists of names. Assumes nothing.
 use Rattle.std.proofs.Common.{◌≡◌, ℕ, zero, suc, ◌+◌, ◌-◌, ◌<◌, ◌≤◌, Bool, true, false, cond, not, ◌&&◌, eqb, leb, ◌⊎◌, List, [], ◌∷◌, ◌++◌, length, get_or, take, is_some, Some, None, sym, refl, ap, ◌∙◌, subst, inl, inr, ⊎_elim, append_assoc, append-nil, add-zero, zero-add, arith}
 use Rattle.std.proofs.lemmas.List.{take_at, length-append, length-map, get_or-map}
+use Rattle.std.proofs.Math.Seq.{take-nil}
 use Rattle.std.proofs.lemmas.Bool.{and_parts, not-true, cond-true, cond-false, eq-eqb, ne_eqb, eqb-true, eqb-false, leb-true, leb-false, true≢false, le-leb, lt-leb}
 use Rattle.std.specs.List.{AllByRecursion as All}
 use Rattle.paths.specs.declared.PathFault.{PathFault}
@@ -10,10 +11,6 @@ use Rattle.paths.specs.Names.{split, join, plain, reserved, good_name, fault_in,
 use Rattle.paths.specs.Order.{goes_on}
 use Rattle.paths.specs.Paths.{child_fault}
 use Rattle.paths.proofs.Laws.{NoZero}
-
-take-nil : (k : ℕ) → take {A = List ℕ} k [] ≡ []
-take-nil zero = refl
-take-nil (suc k) = refl
 
 -- ---- join after split
 

@@ -1,9 +1,11 @@
 -- The laws of the order of paths. Assumes nothing.
-use Rattle.std.proofs.Common.{◌≡◌, ℕ, ◌<◌, Bool, true, false, cond, eqb, ltb, List, [], ◌∷◌, ◌++◌, Ordering, Less, Equal, Greater, sym, refl, ap, ◌∙◌, subst, arith}
+use Rattle.std.proofs.Common.{◌≡◌, ℕ, ◌<◌, Bool, true, false, cond, eqb, ltb, List, [], ◌∷◌, ◌++◌, Ordering, Less, Equal, Greater, sym, refl, ap, ◌∙◌, arith}
 use Rattle.std.proofs.lemmas.Bool.{true≢false, lt-ltb, le-ltb, ne_eqb, cond-true, cond-false}
-use Rattle.std.specs.Cmp.{IsTotalOrder, nat_cmp_total, ranks}
+use Rattle.std.proofs.lemmas.Cmp.{tied_itself}
+use Rattle.std.proofs.lemmas.Map.Lookups.{exact_bytes}
+use Rattle.std.specs.Cmp.{IsTotalOrder, nat_cmp_total}
 use Rattle.std.specs.Cmp.Lexicographic.{slice_cmp, lists_total}
-use Rattle.std.specs.Ordering.{is_lt, is_le, is_gt, ordering_reverse, ordering_then, MatchOrdering, nat_cmp}
+use Rattle.std.specs.Ordering.{is_lt, is_le, is_gt, ordering_reverse, ordering_then, nat_cmp}
 use Rattle.paths.specs.Pieces.{front, later, pieces}
 use Rattle.paths.specs.Names.{split, Under}
 use Rattle.paths.specs.Order.{by_bytes, by_names, by_weight}
@@ -48,13 +50,8 @@ pub total : IsTotalOrder by_names
 total = lists_total (lists_total nat_cmp_total)
 
 module _ {K : Type 0} {R : K → K → Ordering} (o : IsTotalOrder R) where
-  itself_by : (r : Ordering) → r ≡ ordering_reverse r → r ≡ Equal
-  itself_by Less h = absurd (true≢false (ap is_lt h))
-  itself_by Equal h = refl
-  itself_by Greater h = absurd (true≢false (ap is_gt h))
-
   pub itself : (x : K) → R x x ≡ Equal
-  itself x = itself_by (R x x) (o.antisymm x x)
+  itself x = tied_itself o x
 
   module _ (exact : (x y : K) → R x y ≡ Equal → x ≡ y) where
     pub lex_exact : (xs ys : List K) → slice_cmp R xs ys ≡ Equal → xs ≡ ys
@@ -91,7 +88,7 @@ module _ {K : Type 0} {R : K → K → Ordering} (o : IsTotalOrder R) where
       go Greater c f t = absurd (true≢false (sym t))
 
 pub bytes-exact : (a b : List ℕ) → by_bytes a b ≡ Equal → a ≡ b
-bytes-exact = lex_exact nat_cmp_total (λ x y h. subst (λ k. MatchOrdering k (x < y) (x ≡ y) (y < x)) h (ranks x y))
+bytes-exact = exact_bytes
 
 pub names-exact : (a b : List (List ℕ)) → by_names a b ≡ Equal → a ≡ b
 names-exact = lex_exact (lists_total nat_cmp_total) bytes-exact

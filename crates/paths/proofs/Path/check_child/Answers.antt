@@ -1,9 +1,9 @@
 use Rattle.std.proofs.Common.{◌≡◌, ◌+◌, [], ◌∷◌, ◌++◌, length, sym, ap, ◌∙◌, subst, arith}
-use Rattle.std.proofs.lemmas.List.{length-take-le}
 use Rattle.std.proofs.lemmas.Bool.{cond-true, cond-false, eq-eqb, ne_eqb}
 use Rattle.paths.specs.Names.{join, fault_in, Checked}
 use Rattle.paths.specs.Paths.{text, names}
 use Rattle.paths.proofs.Joins.{child_long, child_too_long, child_short}
+use Rattle.paths.proofs.Same.{text_long}
 use Rattle.paths.proofs.Path.check_child.Goals as goal
 use Rattle.paths.proofs.Path.check_child.Goals.{then-self-eq0, else-self-eq0, Joined-self-eq0}
 
@@ -12,7 +12,7 @@ whole-is : (c : Joined-self-eq0) → length (join (names c.args.self.now ++ c.ar
 whole-is c =
     let p = c.args.self.now in
     let name = c.args.name.now in
-    let l : length (text p) ≡ p.len = length-take-le p.len p.bytes (omega arith) in
+    let l = text_long p in
     child_long (text p) name ∙ elim c.if-self-eq0.branch [
       | then-self-eq0 w ↦ cond-true _ _ _ (eq-eqb _ 0 (l ∙ w.if-self-eq0.true)) ∙ sym w.whole-is
       | else-self-eq0 w ↦ cond-false _ _ _ (ne_eqb _ 0 (λ z. w.if-self-eq0.false (sym l ∙ z))) ∙ ap (λ n. n + 1 + length name) l ∙ sym w.whole-is
