@@ -1,11 +1,20 @@
 // What the tree of the base answers, and the same tree lent.
 use crate::indexing::print_entry;
-use crate::outcomes::loaded;
+use crate::outcomes::print_answer;
 use listing::list;
-use manifests::index::{blank_row, index};
+use manifests::index::blank_row;
+use reports::report::manifest_tree;
 use std::io;
 use std::io::Write;
 use trees::tree::Tree;
+
+#[derive(Clone, Copy)]
+pub(crate) enum Question<'a> {
+    Look(&'a [u8]),
+    // The next child of a path behind a name.
+    Next(&'a [u8], &'a [u8]),
+    List,
+}
 
 fn print_look<T: Tree>(rt: &HostRuntime, tree: &T, path: &[u8]) -> io::Result<()> {
     match tree.look(path) {
@@ -28,26 +37,14 @@ fn print_next<T: Tree>(
     }
 }
 
-fn print_list<T: Tree>(rt: &HostRuntime, tree: &T, buffer: &mut [u8]) -> io::Result<()> {
-    match list(tree, buffer) {
-        Ok(n) => rt.println(n),
-        Err(fault) => rt.println(fault),
-    }
-}
-
-// Prints an answer, and the whole buffer after it.
-fn ask<T: Tree>(
-    rt: &HostRuntime,
-    tree: &T,
-    kind: &str,
-    path: &[u8],
-    after: &[u8],
-    buffer: &mut [u8],
-) -> io::Result<()> {
-    match kind {
-        "look" => return print_look(rt, tree, path),
-        "next" => print_next(rt, tree, path, after, buffer)?,
-        _ => print_list(rt, tree, buffer)?,
+// Prints an answer, and the whole buffer after it, of so many bytes and 300 at most.
+fn ask<T: Tree>(rt: &HostRuntime, tree: &T, room: usize, question: Question<'_>) -> io::Result<()> {
+    let mut buffer = [b'@'; 300];
+    let buffer = &mut buffer[0..room.min(300)];
+    match question {
+        Question::Look(path) => return print_look(rt, tree, path),
+        Question::Next(path, after) => print_next(rt, tree, path, after, buffer)?,
+        Question::List => print_answer(rt, list(tree, buffer))?,
     }
     rt.stdout().write_all(buffer)?;
     rt.print("\n")
@@ -56,20 +53,13 @@ fn ask<T: Tree>(
 pub(crate) fn ask_base(
     rt: &HostRuntime,
     base: &[u8],
-    kind: &str,
     room: usize,
-    path: &[u8],
-    after: &[u8],
+    question: Question<'_>,
 ) -> io::Result<()> {
     let mut rows = [blank_row(); 8];
-    let Ok(count) = index(base, &mut rows) else {
+    let Ok(tree) = manifest_tree(base, &mut rows) else {
         return rt.println("the base is refused");
     };
-    let Ok(tree) = loaded(base, &rows[0..count]) else {
-        return rt.println("the base is refused");
-    };
-    let mut buffer = [b'@'; 300];
-    ask(rt, &tree, kind, path, after, &mut buffer[0..room.min(300)])?;
-    let mut buffer = [b'@'; 300];
-    ask(rt, &&tree, kind, path, after, &mut buffer[0..room.min(300)])
+    ask(rt, &tree, room, question)?;
+    ask(rt, &&tree, room, question)
 }

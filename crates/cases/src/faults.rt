@@ -21,19 +21,17 @@ const TREES: [Fault; 12] = [
     Fault::ShortBuffer,
 ];
 
-const CAUSES: [Cause; 9] = [
-    Cause::Header,
-    Cause::Word,
-    Cause::Path(PathFault::BadName(1)),
-    Cause::Keyword,
-    Cause::Value,
-    Cause::Order,
-    Cause::Parent,
-    Cause::TooMany,
-    Cause::OtherRows,
+const MANIFESTS: [(usize, Cause); 9] = [
+    (0, Cause::Header),
+    (7, Cause::Word),
+    (29, Cause::Path(PathFault::BadName(1))),
+    (7, Cause::Keyword),
+    (100, Cause::Value),
+    (7, Cause::Order),
+    (7, Cause::Parent),
+    (65000, Cause::TooMany),
+    (0, Cause::OtherRows),
 ];
-
-const POSITIONS: [usize; 9] = [0, 7, 29, 7, 100, 7, 7, 65000, 0];
 
 fn print_refusal(rt: &HostRuntime, subject: &str, reason: Reason) -> io::Result<()> {
     rt.print(refusal(rt.alloc(), subject, reason)?.as_str())
@@ -43,11 +41,8 @@ pub(crate) fn print_faults(rt: &HostRuntime) -> io::Result<()> {
     for fault in TREES {
         print_refusal(rt, "list", Reason::Tree(fault))?;
     }
-    for i in 0..9usize {
-        let fault = ManifestFault {
-            at: POSITIONS[i],
-            cause: CAUSES[i],
-        };
+    for (at, cause) in MANIFESTS {
+        let fault = ManifestFault { at, cause };
         print_refusal(rt, "base.mtree", Reason::Manifest(fault))?;
     }
     Ok(())

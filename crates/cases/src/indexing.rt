@@ -1,6 +1,7 @@
 // What an index writes, and what a load says of rows.
-use crate::outcomes::{loaded, print_listing};
+use crate::outcomes::{print_answer, print_listing};
 use manifests::index::{blank_row, index};
+use reports::report::manifest_tree;
 use rows::row::Row;
 use std::alloc::{AllocError, Global};
 use std::io;
@@ -9,16 +10,8 @@ use trees::entry::Entry;
 
 pub(crate) fn print_entry(rt: &HostRuntime, entry: Entry) -> io::Result<()> {
     match entry {
-        Entry::Dir(dir) => {
-            let mode = dir.mode;
-            println!(rt; "dir {mode:o}")
-        }
-        Entry::File(file) => {
-            let mode = file.mode;
-            let size = file.size;
-            let content = file.content;
-            println!(rt; "file {mode:o} {size} {content:x}")
-        }
+        Entry::Dir(dir) => println!(rt; "dir {:o}", dir.mode),
+        Entry::File(file) => println!(rt; "file {:o} {} {:x}", file.mode, file.size, file.content),
     }
 }
 
@@ -31,10 +24,7 @@ pub(crate) fn print_index(rt: &HostRuntime, text: &[u8], given: usize) -> io::Re
     if index(marks, &mut rows).is_ok() {
         rows = [rows[1]; 8];
     }
-    match index(text, &mut rows[0..given]) {
-        Ok(n) => rt.println(n)?,
-        Err(fault) => rt.println(fault)?,
-    }
+    print_answer(rt, index(text, &mut rows[0..given]))?;
     for row in &rows[0..given] {
         rt.stdout().write_all(row.path.as_bytes())?;
         rt.print(" ")?;
@@ -45,16 +35,13 @@ pub(crate) fn print_index(rt: &HostRuntime, text: &[u8], given: usize) -> io::Re
 
 // The rows that digits name, and blank ones for other bytes.
 fn picked(heap: Global, rows: &[Row<Entry>], digits: &[u8]) -> Result<Vec<Row<Entry>>, AllocError> {
-    let mut some = Vec::new(heap);
-    for digit in digits {
-        let at = digit.wrapping_sub(b'0') as usize;
-        some.push(if at < rows.len() {
-            rows[at]
-        } else {
-            blank_row()
-        })?;
-    }
-    Ok(some)
+    digits
+        .iter()
+        .map(|digit| {
+            let at = usize::from(digit.wrapping_sub(b'0'));
+            rows.get(at).copied().unwrap_or_else(blank_row)
+        })
+        .collect(heap)
 }
 
 // Loads a text, with picked rows of the base, into a tree that holds the base; then lists the tree.
@@ -69,12 +56,9 @@ pub(crate) fn print_load(
         return rt.println("the base is refused");
     };
     let some = picked(rt.alloc(), &rows[0..count], digits)?;
-    let Ok(mut tree) = loaded(base, &rows[0..count]) else {
+    let Ok(mut tree) = manifest_tree(base, &mut rows) else {
         return rt.println("the base is refused");
     };
-    match tree.load(text, some.as_slice()) {
-        Ok(()) => rt.println("loaded")?,
-        Err(fault) => rt.println(fault)?,
-    }
+    print_answer(rt, tree.load(text, some.as_slice()).map(|()| "loaded"))?;
     print_listing(rt, &tree, base)
 }

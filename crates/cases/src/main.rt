@@ -7,52 +7,50 @@ mod asking;
 mod faults;
 mod indexing;
 mod outcomes;
-mod script;
+mod spelling;
 
-use asking::ask_base;
+use asking::{Question, ask_base};
 use faults::print_faults;
 use indexing::{print_index, print_load};
 use outcomes::{print_outcome, print_report};
-use script::Script;
+use reports::report::report_manifest;
+use spelling::{add_rows, spelled};
 use std::{fs, io};
 
-// A case of what becomes of a text.
-fn run_text(rt: &HostRuntime, kind: &str, number: usize, text: &[u8]) -> io::Result<()> {
+// Runs a line: a kind, a number and two words. A base stands for the lines behind it.
+fn run_line(rt: &HostRuntime, base: &mut Vec<u8>, line: &str) -> io::Result<()> {
+    let mut fields = line.split('\t');
+    let kind = fields.next().unwrap_or("");
+    let number = fields.next().unwrap_or("").parse::<usize>().unwrap_or(0);
+    let first = spelled(rt.alloc(), fields.next().unwrap_or(""))?;
+    let second = spelled(rt.alloc(), fields.next().unwrap_or(""))?;
+    let (first, second) = (first.as_slice(), second.as_slice());
+    let text = [base.as_slice(), first].concat(rt.alloc())?;
+    let text = text.as_slice();
     match kind {
+        "base" => {
+            *base = first.to_vec(rt.alloc())?;
+            Ok(())
+        }
+        "rows" => add_rows(base, number, first, second),
         "text" => print_outcome(rt, text, number),
         "index" => print_index(rt, text, number),
-        "report" => print_report(rt, text),
+        "report" => print_report(rt, report_manifest(rt.alloc(), text)?),
+        "load" => print_load(rt, base.as_slice(), first, second),
+        "look" => ask_base(rt, base.as_slice(), number, Question::Look(first)),
+        "next" => ask_base(rt, base.as_slice(), number, Question::Next(first, second)),
+        "list" => ask_base(rt, base.as_slice(), number, Question::List),
         "faults" => print_faults(rt),
         _ => Ok(()),
     }
 }
 
-fn run_case(rt: &HostRuntime, script: &Script, kind: &str, number: usize) -> io::Result<()> {
-    let base = script.base.as_slice();
-    let first = script.first.as_slice();
-    let second = script.second.as_slice();
-    match kind {
-        "load" => print_load(rt, base, first, second),
-        "look" | "next" | "list" => ask_base(rt, base, kind, number, first, second),
-        _ => run_text(rt, kind, number, script.text.as_slice()),
-    }
-}
-
-fn run(rt: &HostRuntime) -> io::Result<()> {
-    let lines = fs::read_to_string(rt, "cases")?;
-    let mut script = Script::new(rt.alloc());
+fn main(rt: HostRuntime) -> io::Result<()> {
+    let lines = fs::read_to_string(&rt, "cases")?;
+    let mut base = Vec::new(rt.alloc());
     for line in lines.lines() {
         rt.println(line)?;
-        let mut words = line.split('\t');
-        let kind = words.next().unwrap_or("");
-        let number = words.next().unwrap_or("").parse::<usize>().unwrap_or(0);
-        let first = words.next().unwrap_or("");
-        script.take(kind, number, first, words.next().unwrap_or(""))?;
-        run_case(rt, &script, kind, number)?;
+        run_line(&rt, &mut base, line)?;
     }
     Ok(())
-}
-
-fn main(rt: HostRuntime) -> io::Result<()> {
-    run(&rt)
 }

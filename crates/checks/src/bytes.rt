@@ -4,12 +4,12 @@ use std::alloc::{AllocError, Global};
 use std::process::Abort;
 use std::test::Fail;
 
-fn escape_of(b: u8) -> [u8; 4] {
-    [b'\\', b'0' + b / 64, b'0' + b / 8 % 8, b'0' + b % 8]
+fn escape_of(heap: Global, b: u8) -> Result<String, AllocError> {
+    format!(in heap; "\\{b:03o}")
 }
 
 fn stands_for_itself(b: u8) -> bool {
-    33 <= b && b <= 126 && b != b'\\' && b != b'#'
+    b.is_ascii_graphic() && b != b'\\' && b != b'#'
 }
 
 // The text of a directory below the root.
@@ -27,7 +27,7 @@ fn listed_byte(heap: Global, front: &str, b: u8, back: &str) -> Result<Vec<u8>, 
     if stands_for_itself(b) {
         text_of(heap, front, &[b], back)
     } else {
-        text_of(heap, front, &escape_of(b), back)
+        text_of(heap, front, escape_of(heap, b)?.as_bytes(), back)
     }
 }
 
@@ -36,13 +36,8 @@ fn wanted_raw(heap: Global, b: u8) -> Result<Vec<u8>, AllocError> {
     match b {
         b'\n' | b' ' => b"m 28 32".to_vec(heap),
         b'/' => b"m 28 35".to_vec(heap),
-        _ => {
-            if stands_for_itself(b) {
-                listed_byte(heap, "./x", b, "x")
-            } else {
-                b"m 28 31".to_vec(heap)
-            }
-        }
+        _ if stands_for_itself(b) => listed_byte(heap, "./x", b, "x"),
+        _ => b"m 28 31".to_vec(heap),
     }
 }
 
@@ -64,13 +59,12 @@ fn wanted_alone(heap: Global, b: u8) -> Result<Vec<u8>, AllocError> {
 }
 
 fn judge_bytes(
-    rt: &impl Abort,
-    heap: Global,
+    rt: &(impl Abort + AllocGlobal),
     b: u8,
     text: &Vec<u8>,
     wanted: &Vec<u8>,
 ) -> Result<(), Fail> {
-    let said = outcome(heap, text.as_slice())?;
+    let said = outcome(rt.alloc(), text.as_slice())?;
     assert_eq!(rt; said.as_bytes(), wanted.as_slice(), "{}", b);
     Ok(())
 }
@@ -78,15 +72,14 @@ fn judge_bytes(
 #[test]
 fn every_byte(rt: HostRuntime) -> Result<(), Fail> {
     let heap = rt.alloc();
-    for n in 0..256u16 {
-        let b = (n & 0xff) as u8;
-        let escaped = escape_of(b);
+    for b in 0..=u8::MAX {
+        let escaped = escape_of(heap, b)?;
         let raw = text_of(heap, "./x", &[b], "x")?;
-        judge_bytes(&rt, heap, b, &raw, &wanted_raw(heap, b)?)?;
-        let inside = text_of(heap, "./x", &escaped, "x")?;
-        judge_bytes(&rt, heap, b, &inside, &wanted_inside(heap, b)?)?;
-        let alone = text_of(heap, "./", &escaped, "")?;
-        judge_bytes(&rt, heap, b, &alone, &wanted_alone(heap, b)?)?;
+        judge_bytes(&rt, b, &raw, &wanted_raw(heap, b)?)?;
+        let inside = text_of(heap, "./x", escaped.as_bytes(), "x")?;
+        judge_bytes(&rt, b, &inside, &wanted_inside(heap, b)?)?;
+        let alone = text_of(heap, "./", escaped.as_bytes(), "")?;
+        judge_bytes(&rt, b, &alone, &wanted_alone(heap, b)?)?;
     }
     Ok(())
 }

@@ -41,7 +41,7 @@ const TEXTS: [(&str, &str); 26] = [
 #[test]
 fn first_lines(rt: HostRuntime) -> Result<(), Fail> {
     for (text, said) in TEXTS {
-        judge(&rt, rt.alloc(), text, said)?;
+        judge(&rt, text, said)?;
     }
     Ok(())
 }

@@ -1,5 +1,6 @@
 // What an index writes, and what it leaves.
 use crate::kit::shown;
+use crate::outcomes::told;
 use manifests::index::index;
 use paths::Path;
 use rows::row::Row;
@@ -44,9 +45,7 @@ const TABLES: [(usize, &str, &str); 8] = [
 ];
 
 fn marks(heap: Global, n: usize) -> Result<Vec<Row<Entry>>, Fail> {
-    let Ok(path) = Path::parse(b"mark") else {
-        return Err(Fail::new("a path is not good"));
-    };
+    let path = Path::parse(b"mark").map_err(Fail::new)?;
     let value = Entry::File(FileMeta {
         mode: 1,
         size: 2,
@@ -56,14 +55,11 @@ fn marks(heap: Global, n: usize) -> Result<Vec<Row<Entry>>, Fail> {
 }
 
 fn indexed(heap: Global, text: &str, rows: &mut Vec<Row<Entry>>) -> Result<String, AllocError> {
-    let mut said = match index(text.as_bytes(), rows.as_mut_slice()) {
-        Ok(n) => n.to_string(heap)?,
-        Err(fault) => fault.to_string(heap)?,
-    };
+    let mut said = told(heap, index(text.as_bytes(), rows.as_mut_slice()))?;
     for row in rows.iter() {
         let path = String::from_utf8_lossy(heap, row.path.as_bytes())?;
         let entry = shown(heap, row.value)?;
-        said.push_str(format!(in heap; "; {path} {entry}")?.as_str())?;
+        write!(said, "; {path} {entry}")?;
     }
     Ok(said)
 }

@@ -1,6 +1,5 @@
 // Keywords and their values.
-use crate::outcomes::{HEAD, SAME, judge};
-use std::process::Abort;
+use crate::outcomes::{HEAD, SAME, judge_all};
 use std::test::Fail;
 
 // What stands behind the word `./a`, and what becomes of it.
@@ -190,18 +189,11 @@ const PAIRS: [(&str, &str); 13] = [
     (" type=file mode=0644 size=0 content=0 y=1", "m 28 33"),
 ];
 
-fn judge_all(rt: &(impl Abort + AllocGlobal), cases: &[(&str, &str)]) -> Result<(), Fail> {
-    let heap = rt.alloc();
-    for (keywords, said) in cases {
-        let text = format!(in heap; "{HEAD}./a{keywords}\n")?;
-        judge(rt, heap, text.as_str(), said)?;
-    }
-    Ok(())
-}
-
 #[test]
 fn keywords_and_values(rt: HostRuntime) -> Result<(), Fail> {
-    judge_all(&rt, &KEYWORDS)?;
-    judge_all(&rt, &VALUES)?;
-    judge_all(&rt, &PAIRS)
+    let heap = rt.alloc();
+    let line = |keywords: &str| format!(in heap; "{HEAD}./a{keywords}\n");
+    judge_all(&rt, &KEYWORDS, line)?;
+    judge_all(&rt, &VALUES, line)?;
+    judge_all(&rt, &PAIRS, line)
 }

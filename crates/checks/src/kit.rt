@@ -1,5 +1,7 @@
 // What the tree of the kit answers, and lent trees too.
-use crate::outcomes::{HEAD, loaded, rows_of};
+use crate::outcomes::HEAD;
+use manifests::index::blank_row;
+use reports::report::manifest_tree;
 use std::alloc::{AllocError, Global};
 use std::process::Abort;
 use std::test::Fail;
@@ -18,15 +20,9 @@ const EMPTY: &str = "#mtree\n";
 
 pub(crate) fn shown(heap: Global, entry: Entry) -> Result<String, AllocError> {
     match entry {
-        Entry::Dir(dir) => {
-            let mode = dir.mode;
-            format!(in heap; "dir {mode:o}")
-        }
+        Entry::Dir(dir) => format!(in heap; "dir {:o}", dir.mode),
         Entry::File(file) => {
-            let mode = file.mode;
-            let size = file.size;
-            let content = file.content;
-            format!(in heap; "file {mode:o} {size} {content:x}")
+            format!(in heap; "file {:o} {} {:x}", file.mode, file.size, file.content)
         }
     }
 }
@@ -76,365 +72,125 @@ const LANES_LOOKS: [(&str, &str); 2] = [("", "dir 700"), ("a-b", "dir 755")];
 const EMPTY_LOOKS: [(&str, &str); 3] = [("", "t 10 0"), ("etc/coin", "t 10 0"), ("..", "p 2 0")];
 
 fn look_case<T: Tree>(
-    rt: &impl Abort,
-    heap: Global,
+    rt: &(impl Abort + AllocGlobal),
     tree: &T,
     path: &str,
     said: &str,
 ) -> Result<(), Fail> {
-    let found = looked(heap, tree, path)?;
+    let found = looked(rt.alloc(), tree, path)?;
     assert_eq!(rt; found.as_str(), said, "{}", path);
     Ok(())
 }
 
 fn look_all<T: Tree>(
-    rt: &impl Abort,
-    heap: Global,
+    rt: &(impl Abort + AllocGlobal),
     tree: &T,
     cases: &[(&str, &str)],
 ) -> Result<(), Fail> {
     for (path, said) in cases {
-        look_case(rt, heap, tree, path, said)?;
+        look_case(rt, tree, path, said)?;
     }
-    let long = "a".repeat(heap, 121)?;
-    look_case(rt, heap, tree, long.as_str(), "p 1 0")
+    let long = "a".repeat(rt.alloc(), 121)?;
+    look_case(rt, tree, long.as_str(), "p 1 0")
 }
 
 fn look_around(
-    rt: &impl Abort,
-    heap: Global,
+    rt: &(impl Abort + AllocGlobal),
     text: &str,
     cases: &[(&str, &str)],
 ) -> Result<(), Fail> {
-    let rows = rows_of(heap, text)?;
-    let Ok(tree) = loaded(text.as_bytes(), rows.as_slice()) else {
-        return Err(Fail::new("a manifest is refused"));
-    };
-    look_all(rt, heap, &tree, cases)?;
-    look_all(rt, heap, &&tree, cases)
+    let mut rows = vec![in rt.alloc(); blank_row(); 1024]?;
+    let tree = manifest_tree(text.as_bytes(), rows.as_mut_slice()).map_err(Fail::new)?;
+    look_all(rt, &tree, cases)?;
+    look_all(rt, &&tree, cases)
 }
 
 #[test]
 fn looks(rt: HostRuntime) -> Result<(), Fail> {
-    let heap = rt.alloc();
-    look_around(&rt, heap, KIT, &KIT_LOOKS)?;
-    look_around(&rt, heap, HEAD, &HEAD_LOOKS)?;
-    look_around(&rt, heap, LANES, &LANES_LOOKS)?;
-    look_around(&rt, heap, EMPTY, &EMPTY_LOOKS)
+    look_around(&rt, KIT, &KIT_LOOKS)?;
+    look_around(&rt, HEAD, &HEAD_LOOKS)?;
+    look_around(&rt, LANES, &LANES_LOOKS)?;
+    look_around(&rt, EMPTY, &EMPTY_LOOKS)
 }
 
-// A child's name, or what is said where nothing is written.
-#[derive(Clone, Copy)]
-enum Told {
-    Name(&'static str),
-    Nothing(&'static str),
-}
-
-// A path, the name before, the room, and what is told.
-#[derive(Clone, Copy)]
-struct Step {
-    path: &'static str,
-    after: &'static str,
-    room: usize,
-    told: Told,
-}
+// A path, the name before, the room, and the child's name or what is said where nothing is written.
+type Step<'a> = (&'a str, &'a str, usize, Result<&'a str, &'a str>);
 
 const KIT_STEPS: [Step; 36] = [
-    Step {
-        path: "",
-        after: "",
-        room: 40,
-        told: Told::Name("etc"),
-    },
-    Step {
-        path: "",
-        after: "a",
-        room: 40,
-        told: Told::Name("etc"),
-    },
-    Step {
-        path: "",
-        after: "et",
-        room: 40,
-        told: Told::Name("etc"),
-    },
-    Step {
-        path: "",
-        after: "etc",
-        room: 40,
-        told: Told::Nothing("none"),
-    },
-    Step {
-        path: "",
-        after: "etc/",
-        room: 40,
-        told: Told::Nothing("none"),
-    },
-    Step {
-        path: "",
-        after: "f",
-        room: 40,
-        told: Told::Nothing("none"),
-    },
-    Step {
-        path: "etc",
-        after: "",
-        room: 40,
-        told: Told::Name("coin"),
-    },
-    Step {
-        path: "etc",
-        after: "/",
-        room: 40,
-        told: Told::Name("coin"),
-    },
-    Step {
-        path: "etc",
-        after: "coi",
-        room: 40,
-        told: Told::Name("coin"),
-    },
-    Step {
-        path: "etc",
-        after: "coim",
-        room: 40,
-        told: Told::Name("coin"),
-    },
-    Step {
-        path: "etc",
-        after: "coimz",
-        room: 40,
-        told: Told::Name("coin"),
-    },
-    Step {
-        path: "etc",
-        after: "coin",
-        room: 40,
-        told: Told::Name("trays"),
-    },
-    Step {
-        path: "etc",
-        after: "coin\0",
-        room: 40,
-        told: Told::Name("trays"),
-    },
-    Step {
-        path: "etc",
-        after: "coin/x",
-        room: 40,
-        told: Told::Name("trays"),
-    },
-    Step {
-        path: "etc",
-        after: "coinz",
-        room: 40,
-        told: Told::Name("trays"),
-    },
-    Step {
-        path: "etc",
-        after: "tray",
-        room: 40,
-        told: Told::Name("trays"),
-    },
-    Step {
-        path: "etc",
-        after: "trays",
-        room: 40,
-        told: Told::Nothing("none"),
-    },
-    Step {
-        path: "etc",
-        after: "trays\0",
-        room: 40,
-        told: Told::Nothing("none"),
-    },
-    Step {
-        path: "etc",
-        after: "trays/t1",
-        room: 40,
-        told: Told::Nothing("none"),
-    },
-    Step {
-        path: "etc",
-        after: "é",
-        room: 40,
-        told: Told::Nothing("none"),
-    },
-    Step {
-        path: "etc",
-        after: "cccccccccccccccccccccccccccccccccccccccccccccccccccccccccccccccccccccccccccccccccccccccccccccccccccccccccccccccccccccccccccccccccc",
-        room: 40,
-        told: Told::Name("coin"),
-    },
-    Step {
-        path: "etc/trays",
-        after: "",
-        room: 40,
-        told: Told::Name("t1"),
-    },
-    Step {
-        path: "etc/trays",
-        after: "t0",
-        room: 40,
-        told: Told::Name("t1"),
-    },
-    Step {
-        path: "etc/trays",
-        after: "t1",
-        room: 40,
-        told: Told::Nothing("none"),
-    },
-    Step {
-        path: "etc",
-        after: "",
-        room: 41,
-        told: Told::Name("coin"),
-    },
-    Step {
-        path: "etc",
-        after: "",
-        room: 39,
-        told: Told::Nothing("t 21 0"),
-    },
-    Step {
-        path: "etc",
-        after: "",
-        room: 0,
-        told: Told::Nothing("t 21 0"),
-    },
-    Step {
-        path: "etc",
-        after: "trays",
-        room: 39,
-        told: Told::Nothing("t 21 0"),
-    },
-    Step {
-        path: "etc/coin",
-        after: "",
-        room: 40,
-        told: Told::Nothing("t 11 3"),
-    },
-    Step {
-        path: "etc/coin",
-        after: "",
-        room: 39,
-        told: Told::Nothing("t 11 3"),
-    },
-    Step {
-        path: "etc/coin/x",
-        after: "",
-        room: 40,
-        told: Told::Nothing("t 11 3"),
-    },
-    Step {
-        path: "etc/note",
-        after: "",
-        room: 39,
-        told: Told::Nothing("t 10 2"),
-    },
-    Step {
-        path: "etc/note/x",
-        after: "",
-        room: 40,
-        told: Told::Nothing("t 10 2"),
-    },
-    Step {
-        path: "var",
-        after: "",
-        room: 40,
-        told: Told::Nothing("t 10 1"),
-    },
-    Step {
-        path: "etc/..",
-        after: "",
-        room: 0,
-        told: Told::Nothing("p 2 1"),
-    },
-    Step {
-        path: "a/a/a/a/a/a/a/a/a",
-        after: "",
-        room: 40,
-        told: Told::Nothing("p 3 8"),
-    },
+    ("", "", 40, Ok("etc")),
+    ("", "a", 40, Ok("etc")),
+    ("", "et", 40, Ok("etc")),
+    ("", "etc", 40, Err("none")),
+    ("", "etc/", 40, Err("none")),
+    ("", "f", 40, Err("none")),
+    ("etc", "", 40, Ok("coin")),
+    ("etc", "/", 40, Ok("coin")),
+    ("etc", "coi", 40, Ok("coin")),
+    ("etc", "coim", 40, Ok("coin")),
+    ("etc", "coimz", 40, Ok("coin")),
+    ("etc", "coin", 40, Ok("trays")),
+    ("etc", "coin\0", 40, Ok("trays")),
+    ("etc", "coin/x", 40, Ok("trays")),
+    ("etc", "coinz", 40, Ok("trays")),
+    ("etc", "tray", 40, Ok("trays")),
+    ("etc", "trays", 40, Err("none")),
+    ("etc", "trays\0", 40, Err("none")),
+    ("etc", "trays/t1", 40, Err("none")),
+    ("etc", "é", 40, Err("none")),
+    (
+        "etc",
+        "cccccccccccccccccccccccccccccccccccccccccccccccccccccccccccccccccccccccccccccccccccccccccccccccccccccccccccccccccccccccccccccccccc",
+        40,
+        Ok("coin"),
+    ),
+    ("etc/trays", "", 40, Ok("t1")),
+    ("etc/trays", "t0", 40, Ok("t1")),
+    ("etc/trays", "t1", 40, Err("none")),
+    ("etc", "", 41, Ok("coin")),
+    ("etc", "", 39, Err("t 21 0")),
+    ("etc", "", 0, Err("t 21 0")),
+    ("etc", "trays", 39, Err("t 21 0")),
+    ("etc/coin", "", 40, Err("t 11 3")),
+    ("etc/coin", "", 39, Err("t 11 3")),
+    ("etc/coin/x", "", 40, Err("t 11 3")),
+    ("etc/note", "", 39, Err("t 10 2")),
+    ("etc/note/x", "", 40, Err("t 10 2")),
+    ("var", "", 40, Err("t 10 1")),
+    ("etc/..", "", 0, Err("p 2 1")),
+    ("a/a/a/a/a/a/a/a/a", "", 40, Err("p 3 8")),
 ];
 
 const LANES_STEPS: [Step; 7] = [
-    Step {
-        path: "",
-        after: "",
-        room: 40,
-        told: Told::Name("a"),
-    },
-    Step {
-        path: "",
-        after: "a",
-        room: 40,
-        told: Told::Name("a-b"),
-    },
-    Step {
-        path: "",
-        after: "a-b",
-        room: 40,
-        told: Told::Name("aaaaaaaaaabbbbbbbbbbccccccccccdddddddddd"),
-    },
-    Step {
-        path: "",
-        after: "aaaaaaaaaabbbbbbbbbbccccccccccdddddddddd",
-        room: 40,
-        told: Told::Nothing("none"),
-    },
-    Step {
-        path: "a",
-        after: "",
-        room: 40,
-        told: Told::Name("b"),
-    },
-    Step {
-        path: "a",
-        after: "b",
-        room: 40,
-        told: Told::Nothing("none"),
-    },
-    Step {
-        path: "a-b",
-        after: "",
-        room: 40,
-        told: Told::Nothing("none"),
-    },
+    ("", "", 40, Ok("a")),
+    ("", "a", 40, Ok("a-b")),
+    (
+        "",
+        "a-b",
+        40,
+        Ok("aaaaaaaaaabbbbbbbbbbccccccccccdddddddddd"),
+    ),
+    (
+        "",
+        "aaaaaaaaaabbbbbbbbbbccccccccccdddddddddd",
+        40,
+        Err("none"),
+    ),
+    ("a", "", 40, Ok("b")),
+    ("a", "b", 40, Err("none")),
+    ("a-b", "", 40, Err("none")),
 ];
 
 const EMPTY_STEPS: [Step; 3] = [
-    Step {
-        path: "",
-        after: "",
-        room: 40,
-        told: Told::Nothing("t 10 0"),
-    },
-    Step {
-        path: "",
-        after: "",
-        room: 39,
-        told: Told::Nothing("t 10 0"),
-    },
-    Step {
-        path: "etc/coin",
-        after: "",
-        room: 40,
-        told: Told::Nothing("t 10 0"),
-    },
+    ("", "", 40, Err("t 10 0")),
+    ("", "", 39, Err("t 10 0")),
+    ("etc/coin", "", 40, Err("t 10 0")),
 ];
 
 // What `next` answers, and the whole buffer after it.
-fn stepped<T: Tree>(
-    heap: Global,
-    tree: &T,
-    path: &str,
-    after: &str,
-    room: usize,
-) -> Result<String, AllocError> {
+fn stepped<T: Tree>(heap: Global, tree: &T, step: Step<'_>) -> Result<String, AllocError> {
+    let (path, after, room, _) = step;
     let mut buffer = vec![in heap; b'.'; room]?;
-    let answer = tree.next(path.as_bytes(), after.as_bytes(), buffer.as_mut_slice());
-    let said = match answer {
+    let said = match tree.next(path.as_bytes(), after.as_bytes(), buffer.as_mut_slice()) {
         Ok(Some(n)) => n.to_string(heap)?,
         Ok(None) => String::from_str(heap, "none")?,
         Err(fault) => fault.to_string(heap)?,
@@ -443,67 +199,44 @@ fn stepped<T: Tree>(
     format!(in heap; "{said} {left}")
 }
 
-fn wanted(heap: Global, step: &Step) -> Result<String, AllocError> {
-    match step.told {
-        Told::Name(name) => {
-            let len = name.len();
-            let rest = ".".repeat(heap, step.room.saturating_sub(len))?;
-            format!(in heap; "{len} {name}{rest}")
-        }
-        Told::Nothing(said) => {
-            let rest = ".".repeat(heap, step.room)?;
-            format!(in heap; "{said} {rest}")
-        }
+fn wanted(heap: Global, step: Step<'_>) -> Result<String, AllocError> {
+    let (_, _, room, told) = step;
+    let name = told.unwrap_or("");
+    let rest = ".".repeat(heap, room.saturating_sub(name.len()))?;
+    match told {
+        Ok(name) => format!(in heap; "{} {name}{rest}", name.len()),
+        Err(said) => format!(in heap; "{said} {rest}"),
     }
 }
 
 fn step_case<T: Tree>(
-    rt: &impl Abort,
-    heap: Global,
+    rt: &(impl Abort + AllocGlobal),
     tree: &T,
-    path: &str,
-    after: &str,
-    room: usize,
-    told: &str,
+    step: Step<'_>,
 ) -> Result<(), Fail> {
-    let said = stepped(heap, tree, path, after, room)?;
-    assert_eq!(rt; said.as_str(), told, "{}", path);
+    let said = stepped(rt.alloc(), tree, step)?;
+    assert_eq!(rt;
+        said.as_str(),
+        wanted(rt.alloc(), step)?.as_str(),
+        "{}",
+        step.0
+    );
     Ok(())
 }
 
-fn walk(rt: &impl Abort, heap: Global, text: &str, steps: &[Step]) -> Result<(), Fail> {
-    let rows = rows_of(heap, text)?;
-    let Ok(tree) = loaded(text.as_bytes(), rows.as_slice()) else {
-        return Err(Fail::new("a manifest is refused"));
-    };
+fn walk(rt: &(impl Abort + AllocGlobal), text: &str, steps: &[Step<'_>]) -> Result<(), Fail> {
+    let mut rows = vec![in rt.alloc(); blank_row(); 1024]?;
+    let tree = manifest_tree(text.as_bytes(), rows.as_mut_slice()).map_err(Fail::new)?;
     for step in steps {
-        let told = wanted(heap, step)?;
-        step_case(
-            rt,
-            heap,
-            &tree,
-            step.path,
-            step.after,
-            step.room,
-            told.as_str(),
-        )?;
-        step_case(
-            rt,
-            heap,
-            &&tree,
-            step.path,
-            step.after,
-            step.room,
-            told.as_str(),
-        )?;
+        step_case(rt, &tree, *step)?;
+        step_case(rt, &&tree, *step)?;
     }
     Ok(())
 }
 
 #[test]
 fn nexts(rt: HostRuntime) -> Result<(), Fail> {
-    let heap = rt.alloc();
-    walk(&rt, heap, KIT, &KIT_STEPS)?;
-    walk(&rt, heap, LANES, &LANES_STEPS)?;
-    walk(&rt, heap, EMPTY, &EMPTY_STEPS)
+    walk(&rt, KIT, &KIT_STEPS)?;
+    walk(&rt, LANES, &LANES_STEPS)?;
+    walk(&rt, EMPTY, &EMPTY_STEPS)
 }

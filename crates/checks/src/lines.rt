@@ -1,6 +1,5 @@
 // Lines behind one another: their order, their parents, and which fault counts.
-use crate::outcomes::{HEAD, SAME, judge};
-use std::process::Abort;
+use crate::outcomes::{HEAD, SAME, judge_all};
 use std::test::Fail;
 
 // The lines behind the root's, which ends at 28, and what becomes of them.
@@ -154,19 +153,12 @@ const LATER: [(&str, &str); 15] = [
     ("# note\n", "m 28 31"),
 ];
 
-fn judge_all(rt: &(impl Abort + AllocGlobal), cases: &[(&str, &str)]) -> Result<(), Fail> {
-    let heap = rt.alloc();
-    for (lines, said) in cases {
-        let text = format!(in heap; "{HEAD}{lines}")?;
-        judge(rt, heap, text.as_str(), said)?;
-    }
-    Ok(())
-}
-
 #[test]
 fn orders_and_parents(rt: HostRuntime) -> Result<(), Fail> {
-    judge_all(&rt, &ORDERS)?;
-    judge_all(&rt, &PARENTS)?;
-    judge_all(&rt, &PAIRS)?;
-    judge_all(&rt, &LATER)
+    let heap = rt.alloc();
+    let text = |lines: &str| format!(in heap; "{HEAD}{lines}");
+    judge_all(&rt, &ORDERS, text)?;
+    judge_all(&rt, &PARENTS, text)?;
+    judge_all(&rt, &PAIRS, text)?;
+    judge_all(&rt, &LATER, text)
 }

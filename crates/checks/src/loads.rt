@@ -1,9 +1,10 @@
 // Rows that are not the text's.
 use crate::kit::KIT;
-use crate::outcomes::{listed, rows_of};
+use crate::outcomes::{reported, told};
 use base::Manifest;
-use manifests::index::blank_row;
+use manifests::index::{blank_row, index};
 use paths::Path;
+use reports::report::report_tree;
 use rows::row::Row;
 use std::alloc::Global;
 use std::process::Abort;
@@ -83,30 +84,11 @@ const CHANGES: [(Change, &str); 19] = [
     (Change::Cut(0), "m 7 36"),
 ];
 
-fn put_entry(rt: &impl Abort, rows: &mut Vec<Row<Entry>>, at: usize, entry: Entry) {
-    assert!(rt; at < rows.len());
-    rows[at].value = entry;
-}
-
-fn put_path(
-    rt: &impl Abort,
-    rows: &mut Vec<Row<Entry>>,
-    at: usize,
-    path: &str,
-) -> Result<(), Fail> {
-    assert!(rt; at < rows.len());
-    let Ok(path) = Path::parse(path.as_bytes()) else {
-        return Err(Fail::new("a path is not good"));
-    };
-    rows[at].path = path;
-    Ok(())
-}
-
-fn swap(rt: &impl Abort, rows: &mut Vec<Row<Entry>>, a: usize, b: usize) {
-    assert!(rt; a < rows.len() && b < rows.len());
-    let first = rows[a];
-    rows[a] = rows[b];
-    rows[b] = first;
+fn kit_rows(heap: Global) -> Result<Vec<Row<Entry>>, Fail> {
+    let mut rows = vec![in heap; blank_row(); 1024]?;
+    let count = index(KIT.as_bytes(), rows.as_mut_slice()).map_err(Fail::new)?;
+    rows.truncate(count);
+    Ok(rows)
 }
 
 fn change_rows(rt: &impl Abort, rows: &mut Vec<Row<Entry>>, change: Change) -> Result<(), Fail> {
@@ -114,35 +96,38 @@ fn change_rows(rt: &impl Abort, rows: &mut Vec<Row<Entry>>, change: Change) -> R
         Change::Keep => {}
         Change::More => rows.push(blank_row())?,
         Change::Twice => {
-            let n = rows.len();
-            assert!(rt; 0 < n);
-            rows.push(rows[n - 1])?;
+            let last = rows.last().copied().ok_or("no row")?;
+            rows.push(last)?;
         }
         Change::Cut(n) => rows.truncate(n),
-        Change::Swap(a, b) => swap(rt, rows, a, b),
-        Change::Entry(at, entry) => put_entry(rt, rows, at, entry),
-        Change::Path(at, path) => put_path(rt, rows, at, path)?,
+        Change::Swap(a, b) => {
+            assert!(rt; a < rows.len() && b < rows.len());
+            rows.swap(a, b);
+        }
+        Change::Entry(at, entry) => rows.get_mut(at).ok_or("no such row")?.value = entry,
+        Change::Path(at, path) => {
+            let path = Path::parse(path.as_bytes()).map_err(Fail::new)?;
+            rows.get_mut(at).ok_or("no such row")?.path = path;
+        }
     }
     Ok(())
 }
 
 // What a load says to a tree that holds the kit; a refusal leaves the tree as it was.
 fn load_said<'a>(
-    rt: &impl Abort,
-    heap: Global,
+    rt: &(impl Abort + AllocGlobal),
     text: &str,
     rows: &'a [Row<Entry>],
     kit: &'a [Row<Entry>],
 ) -> Result<String, Fail> {
+    let heap = rt.alloc();
     let mut tree = Manifest::empty();
-    assert!(rt; tree.load(KIT.as_bytes(), kit).is_ok());
-    match tree.load(text.as_bytes(), rows) {
-        Ok(()) => Ok(String::from_str(heap, "loaded")?),
-        Err(fault) => {
-            assert_eq!(rt; listed(heap, &tree)?.as_str(), KIT);
-            Ok(fault.to_string(heap)?)
-        }
+    tree.load(KIT.as_bytes(), kit).map_err(Fail::new)?;
+    let answer = tree.load(text.as_bytes(), rows);
+    if answer.is_err() {
+        assert_eq!(rt; reported(heap, report_tree(heap, &tree)?)?.as_str(), KIT);
     }
+    Ok(told(heap, answer.map(|()| "loaded"))?)
 }
 
 // A text that is loaded with the kit's rows, and what is said.
@@ -161,26 +146,16 @@ const TEXTS: [(&str, &str); 6] = [
 #[test]
 fn other_rows(rt: HostRuntime) -> Result<(), Fail> {
     let heap = rt.alloc();
-    let kit = rows_of(heap, KIT)?;
-    let mut case = 0u8;
-    for (change, said) in CHANGES {
-        let mut rows = rows_of(heap, KIT)?;
-        change_rows(&rt, &mut rows, change)?;
-        assert_eq!(rt;
-            load_said(&rt, heap, KIT, rows.as_slice(), kit.as_slice())?.as_str(),
-            said,
-            "{}",
-            case
-        );
-        case = case.wrapping_add(1);
+    let kit = kit_rows(heap)?;
+    for (case, (change, said)) in CHANGES.iter().enumerate() {
+        let mut rows = kit_rows(heap)?;
+        change_rows(&rt, &mut rows, *change)?;
+        let found = load_said(&rt, KIT, rows.as_slice(), kit.as_slice())?;
+        assert_eq!(rt; found.as_str(), *said, "{}", case);
     }
     for (text, said) in TEXTS {
-        assert_eq!(rt;
-            load_said(&rt, heap, text, kit.as_slice(), kit.as_slice())?.as_str(),
-            said,
-            "{}",
-            text
-        );
+        let found = load_said(&rt, text, kit.as_slice(), kit.as_slice())?;
+        assert_eq!(rt; found.as_str(), said, "{}", text);
     }
     Ok(())
 }

@@ -1,49 +1,37 @@
 // What becomes of a manifest's text.
-use base::Manifest;
-use listing::list;
-use manifests::fault::ManifestFault;
-use manifests::index::{blank_row, index};
-use rows::row::Row;
+use manifests::index::blank_row;
+use reports::report::{Report, manifest_tree, report_tree};
 use std::alloc::{AllocError, Global};
+use std::fmt::Display;
 use std::process::Abort;
 use std::test::Fail;
-use trees::entry::Entry;
-use trees::tree::Tree;
 
 // The header, and the line of a root.
 pub(crate) const HEAD: &str = "#mtree\n. type=dir mode=0755\n";
 
-// The tree of a text and its rows.
-pub(crate) fn loaded<'a>(
-    text: &[u8],
-    rows: &'a [Row<Entry>],
-) -> Result<Manifest<'a>, ManifestFault> {
-    let mut tree = Manifest::empty();
-    tree.load(text, rows)?;
-    Ok(tree)
+// An answer, or the fault in place of one.
+pub(crate) fn told<T: Display + Drop, E: Display + Drop>(
+    heap: Global,
+    answer: Result<T, E>,
+) -> Result<String, AllocError> {
+    match answer {
+        Ok(value) => value.to_string(heap),
+        Err(fault) => fault.to_string(heap),
+    }
 }
 
-// The listing of a tree, or why there is none.
-pub(crate) fn listed<T: Tree>(heap: Global, tree: &T) -> Result<String, AllocError> {
-    let mut buffer = vec![in heap; 0; 65536]?;
-    match list(tree, buffer.as_mut_slice()) {
-        Ok(n) => {
-            buffer.truncate(n);
-            String::from_utf8_lossy(heap, buffer.as_slice())
-        }
-        Err(fault) => fault.to_string(heap),
+pub(crate) fn reported(heap: Global, report: Report) -> Result<String, AllocError> {
+    match report {
+        Ok(listing) => String::from_utf8_lossy(heap, listing.as_slice()),
+        Err(line) => Ok(line),
     }
 }
 
 // The listing of a manifest's tree, or why the manifest is refused, where `given` rows are lent.
 pub(crate) fn outcome_in(heap: Global, text: &[u8], given: usize) -> Result<String, AllocError> {
     let mut rows = vec![in heap; blank_row(); given]?;
-    match index(text, rows.as_mut_slice()) {
-        Ok(n) => rows.truncate(n),
-        Err(fault) => return fault.to_string(heap),
-    }
-    match loaded(text, rows.as_slice()) {
-        Ok(tree) => listed(heap, &tree),
+    match manifest_tree(text, rows.as_mut_slice()) {
+        Ok(tree) => reported(heap, report_tree(heap, &tree)?),
         Err(fault) => fault.to_string(heap),
     }
 }
@@ -57,32 +45,31 @@ pub(crate) const SAME: &str = "";
 
 // Checks what becomes of a text where `given` rows are lent.
 pub(crate) fn judge_in(
-    rt: &impl Abort,
-    heap: Global,
+    rt: &(impl Abort + AllocGlobal),
     text: &str,
     given: usize,
     said: &str,
 ) -> Result<(), Fail> {
     let wanted = if said.is_empty() { text } else { said };
-    assert_eq!(rt;
-        outcome_in(heap, text.as_bytes(), given)?.as_str(),
-        wanted,
-        "{}",
-        text
-    );
+    let found = outcome_in(rt.alloc(), text.as_bytes(), given)?;
+    assert_eq!(rt; found.as_str(), wanted, "{}", text);
     Ok(())
 }
 
-pub(crate) fn judge(rt: &impl Abort, heap: Global, text: &str, said: &str) -> Result<(), Fail> {
-    judge_in(rt, heap, text, 1024, said)
+pub(crate) fn judge(rt: &(impl Abort + AllocGlobal), text: &str, said: &str) -> Result<(), Fail> {
+    judge_in(rt, text, 1024, said)
 }
 
-// The rows of a text that is not refused.
-pub(crate) fn rows_of(heap: Global, text: &str) -> Result<Vec<Row<Entry>>, Fail> {
-    let mut rows = vec![in heap; blank_row(); 1024]?;
-    match index(text.as_bytes(), rows.as_mut_slice()) {
-        Ok(n) => rows.truncate(n),
-        Err(fault) => return Err(Fail::new(fault)),
+// Checks what becomes of the texts that are made of words.
+pub(crate) fn judge_all<F: Fn(&str) -> Result<String, AllocError>>(
+    rt: &(impl Abort + AllocGlobal),
+    cases: &[(&str, &str)],
+    text_of: F,
+) -> Result<(), Fail>
+    requires { F.IsAlwaysCallable text_of }
+{
+    for (word, said) in cases {
+        judge(rt, text_of(word)?.as_str(), said)?;
     }
-    Ok(rows)
+    Ok(())
 }

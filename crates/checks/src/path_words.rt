@@ -1,10 +1,9 @@
 // Path words.
-use crate::outcomes::{HEAD, judge};
+use crate::outcomes::{HEAD, judge, judge_all};
 use std::alloc::{AllocError, Global};
-use std::process::Abort;
 use std::test::Fail;
 
-// A word, and how it is listed or why it is refused.
+// A word, and how it is listed.
 const LISTED: [(&str, &str); 30] = [
     ("./a", "./a"),
     ("./a=b", "./a=b"),
@@ -47,7 +46,7 @@ const LISTED: [(&str, &str); 30] = [
     ),
 ];
 
-// Words of paths that are not good, or that have no place.
+// Words of paths that are not good, or that have no place, and why they are refused.
 const BAD_PATHS: [(&str, &str); 34] = [
     ("./aaaaaaaaaabbbbbbbbbbccccccccccdddddddddde", "m 28 p 2 0"),
     ("\\056", "m 28 34"),
@@ -124,147 +123,52 @@ fn line_of(heap: Global, word: &str) -> Result<String, AllocError> {
     format!(in heap; "{HEAD}{word} type=dir mode=0755\n")
 }
 
-// What is said of a word's line, where `said` is a listed word or a refusal.
-fn whole(heap: Global, said: &str) -> Result<String, AllocError> {
-    match said.as_bytes() {
-        [b'm', ..] => String::from_str(heap, said),
-        _ => line_of(heap, said),
-    }
-}
-
-fn judge_all(rt: &(impl Abort + AllocGlobal), cases: &[(&str, &str)]) -> Result<(), Fail> {
-    let heap = rt.alloc();
-    for (word, said) in cases {
-        let text = line_of(heap, word)?;
-        judge(rt, heap, text.as_str(), whole(heap, said)?.as_str())?;
-    }
-    Ok(())
-}
-
 #[test]
 fn words(rt: HostRuntime) -> Result<(), Fail> {
-    judge_all(&rt, &LISTED)?;
-    judge_all(&rt, &BAD_PATHS)?;
-    judge_all(&rt, &BAD_WORDS)
+    let heap = rt.alloc();
+    for (word, listed) in LISTED {
+        judge(
+            &rt,
+            line_of(heap, word)?.as_str(),
+            line_of(heap, listed)?.as_str(),
+        )?;
+    }
+    judge_all(&rt, &BAD_PATHS, |word: &str| line_of(heap, word))?;
+    judge_all(&rt, &BAD_WORDS, |word: &str| line_of(heap, word))
 }
 
 // A word made of a head, a piece many times and a tail, and why it is refused.
-#[derive(Clone, Copy)]
-struct LongWord {
-    head: &'static str,
-    piece: &'static str,
-    times: usize,
-    tail: &'static str,
-    said: &'static str,
-}
+type LongWord = (
+    &'static str,
+    &'static str,
+    usize,
+    &'static str,
+    &'static str,
+);
 
 const LONG_WORDS: [LongWord; 13] = [
-    LongWord {
-        head: "./",
-        piece: "\\141",
-        times: 41,
-        tail: "",
-        said: "m 28 p 2 0",
-    },
-    LongWord {
-        head: "./",
-        piece: "a",
-        times: 120,
-        tail: "",
-        said: "m 28 p 2 0",
-    },
-    LongWord {
-        head: "./",
-        piece: "\\141",
-        times: 120,
-        tail: "",
-        said: "m 28 p 2 0",
-    },
-    LongWord {
-        head: "./",
-        piece: "a",
-        times: 121,
-        tail: "",
-        said: "m 28 p 1 0",
-    },
-    LongWord {
-        head: "./",
-        piece: "\\141",
-        times: 121,
-        tail: "",
-        said: "m 28 p 1 0",
-    },
-    LongWord {
-        head: "./",
-        piece: "a/",
-        times: 60,
-        tail: "",
-        said: "m 28 p 3 8",
-    },
-    LongWord {
-        head: "./",
-        piece: "a/",
-        times: 60,
-        tail: "a",
-        said: "m 28 p 1 0",
-    },
-    LongWord {
-        head: "./",
-        piece: "/",
-        times: 121,
-        tail: "",
-        said: "m 28 p 1 0",
-    },
-    LongWord {
-        head: "./",
-        piece: "a",
-        times: 5000,
-        tail: "",
-        said: "m 28 p 1 0",
-    },
-    LongWord {
-        head: "./",
-        piece: "a",
-        times: 121,
-        tail: "\\4",
-        said: "m 28 31",
-    },
-    LongWord {
-        head: "./",
-        piece: "a",
-        times: 5000,
-        tail: "#",
-        said: "m 28 31",
-    },
-    LongWord {
-        head: "a/",
-        piece: "a",
-        times: 121,
-        tail: "",
-        said: "m 28 31",
-    },
-    LongWord {
-        head: "",
-        piece: "\\056",
-        times: 130,
-        tail: "",
-        said: "m 28 31",
-    },
+    ("./", "\\141", 41, "", "m 28 p 2 0"),
+    ("./", "a", 120, "", "m 28 p 2 0"),
+    ("./", "\\141", 120, "", "m 28 p 2 0"),
+    ("./", "a", 121, "", "m 28 p 1 0"),
+    ("./", "\\141", 121, "", "m 28 p 1 0"),
+    ("./", "a/", 60, "", "m 28 p 3 8"),
+    ("./", "a/", 60, "a", "m 28 p 1 0"),
+    ("./", "/", 121, "", "m 28 p 1 0"),
+    ("./", "a", 5000, "", "m 28 p 1 0"),
+    ("./", "a", 121, "\\4", "m 28 31"),
+    ("./", "a", 5000, "#", "m 28 31"),
+    ("a/", "a", 121, "", "m 28 31"),
+    ("", "\\056", 130, "", "m 28 31"),
 ];
-
-// A directory's line with a long word, behind the root's.
-fn long_line(heap: Global, case: &LongWord) -> Result<String, AllocError> {
-    let head = case.head;
-    let middle = case.piece.repeat(heap, case.times)?;
-    let tail = case.tail;
-    format!(in heap; "{HEAD}{head}{middle}{tail} type=dir mode=0755\n")
-}
 
 #[test]
 fn long_words(rt: HostRuntime) -> Result<(), Fail> {
     let heap = rt.alloc();
-    for case in &LONG_WORDS {
-        judge(&rt, heap, long_line(heap, case)?.as_str(), case.said)?;
+    for (head, piece, times, tail, said) in LONG_WORDS {
+        let middle = piece.repeat(heap, times)?;
+        let word = format!(in heap; "{head}{middle}{tail}")?;
+        judge(&rt, line_of(heap, word.as_str())?.as_str(), said)?;
     }
     Ok(())
 }

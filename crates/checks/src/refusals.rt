@@ -1,10 +1,10 @@
 // The lines that refusals print, and the report on a manifest.
 use crate::kit::KIT;
+use crate::outcomes::reported;
 use manifests::fault::ManifestFault;
 use paths::PathFault;
 use reports::refusal::{Reason, refusal};
-use reports::report::{Report, report_manifest};
-use std::alloc::{AllocError, Global};
+use reports::report::report_manifest;
 use std::test::Fail;
 use trees::fault::Fault;
 use words::fault::Cause;
@@ -51,13 +51,6 @@ const TEXTS: [(&str, &str); 4] = [
     (KIT, KIT),
 ];
 
-fn reported(heap: Global, text: &str) -> Result<String, AllocError> {
-    match report_manifest(heap, text.as_bytes())? {
-        Report::Listed(listing) => String::from_utf8_lossy(heap, listing.as_slice()),
-        Report::Refused(line) => Ok(line),
-    }
-}
-
 #[test]
 fn lines_printed(rt: HostRuntime) -> Result<(), Fail> {
     let heap = rt.alloc();
@@ -72,7 +65,8 @@ fn lines_printed(rt: HostRuntime) -> Result<(), Fail> {
         );
     }
     for (text, said) in TEXTS {
-        assert_eq!(rt; reported(heap, text)?.as_str(), said, "{}", text);
+        let report = report_manifest(heap, text.as_bytes())?;
+        assert_eq!(rt; reported(heap, report)?.as_str(), said, "{}", text);
     }
     Ok(())
 }

@@ -1,7 +1,9 @@
 // Buffers for a listing: one too short is left alone, and of one too long the rest is.
 use crate::kit::KIT;
-use crate::outcomes::{HEAD, loaded, rows_of};
+use crate::outcomes::{HEAD, told};
 use listing::list;
+use manifests::index::blank_row;
+use reports::report::manifest_tree;
 use std::alloc::{AllocError, Global};
 use std::test::Fail;
 use trees::tree::Tree;
@@ -27,19 +29,13 @@ const ROOMS: [(&str, usize, &str); 14] = [
 // What `list` answers, and the whole buffer after it.
 fn listed_in<T: Tree>(heap: Global, tree: &T, room: usize) -> Result<String, AllocError> {
     let mut buffer = vec![in heap; b'@'; room]?;
-    let said = match list(tree, buffer.as_mut_slice()) {
-        Ok(n) => n.to_string(heap)?,
-        Err(fault) => fault.to_string(heap)?,
-    };
+    let said = told(heap, list(tree, buffer.as_mut_slice()))?;
     let left = String::from_utf8_lossy(heap, buffer.as_slice())?;
     format!(in heap; "{said} {left}")
 }
 
 fn wanted(heap: Global, text: &str, room: usize, said: &str) -> Result<String, AllocError> {
-    let written = match said.as_bytes() {
-        [b't', ..] => "",
-        _ => text,
-    };
+    let written = if said.starts_with('t') { "" } else { text };
     let rest = "@".repeat(heap, room.saturating_sub(written.len()))?;
     format!(in heap; "{said} {written}{rest}")
 }
@@ -48,23 +44,13 @@ fn wanted(heap: Global, text: &str, room: usize, said: &str) -> Result<String, A
 fn rooms(rt: HostRuntime) -> Result<(), Fail> {
     let heap = rt.alloc();
     for (text, room, said) in ROOMS {
-        let rows = rows_of(heap, text)?;
-        let Ok(tree) = loaded(text.as_bytes(), rows.as_slice()) else {
-            return Err(Fail::new("a manifest is refused"));
-        };
-        let told = wanted(heap, text, room, said)?;
-        assert_eq!(rt;
-            listed_in(heap, &tree, room)?.as_str(),
-            told.as_str(),
-            "{}",
-            room
-        );
-        assert_eq!(rt;
-            listed_in(heap, &&tree, room)?.as_str(),
-            told.as_str(),
-            "{}",
-            room
-        );
+        let mut rows = vec![in heap; blank_row(); 1024]?;
+        let tree = manifest_tree(text.as_bytes(), rows.as_mut_slice()).map_err(Fail::new)?;
+        let expected = wanted(heap, text, room, said)?;
+        let found = listed_in(heap, &tree, room)?;
+        assert_eq!(rt; found.as_str(), expected.as_str(), "{}", room);
+        let found = listed_in(heap, &&tree, room)?;
+        assert_eq!(rt; found.as_str(), expected.as_str(), "{}", room);
     }
     Ok(())
 }

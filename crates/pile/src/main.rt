@@ -3,8 +3,8 @@
 
 #![tactic(auto)]
 
-use anyhow::anyhow;
-use reports::report::{Report, report_manifest};
+use anyhow::ensure;
+use reports::report::report_manifest;
 use std::fs::File;
 use std::io;
 use std::io::{ErrorKind, Read, Write};
@@ -16,44 +16,28 @@ const MOST_READ: u64 = 65537;
 // The bytes of a file, as far as they are read; none, where there is no such file.
 fn read_file(rt: &HostRuntime, name: &str) -> io::Result<Option<Vec<u8>>> {
     let file = match File::open(rt, name) {
-        Ok(file) => file,
-        Err(e) => {
-            if e.kind() == ErrorKind::NotFound {
-                return Ok(None);
-            }
-            return Err(e);
-        }
+        Err(e) if e.kind() == ErrorKind::NotFound => return Ok(None),
+        opened => opened?,
     };
     let mut bytes = Vec::new(rt.alloc());
     let _ = file.take(MOST_READ).read_to_end(&mut bytes)?;
     Ok(Some(bytes))
 }
 
-// Prints the listing; true, or prints the refusal: false.
-fn run(rt: &HostRuntime) -> anyhow::Result<bool> {
-    let base = match read_file(rt, "base.mtree")? {
-        Some(bytes) => bytes,
-        None => Vec::new(rt.alloc()),
-    };
-    match report_manifest(rt.alloc(), base.as_slice())? {
-        Report::Refused(line) => {
-            rt.print(line.as_str())?;
-            Ok(false)
-        }
-        Report::Listed(listing) => {
-            if read_file(rt, "top.lay")?.is_some() {
-                return Err(anyhow!("top.lay: layers are not read yet"));
-            }
-            rt.stdout().write_all(listing.as_slice())?;
-            Ok(true)
-        }
-    }
-}
-
 fn main(rt: HostRuntime) -> anyhow::Result<ExitCode> {
-    if run(&rt)? {
-        Ok(ExitCode::SUCCESS)
-    } else {
-        Ok(ExitCode::FAILURE)
+    let base = read_file(&rt, "base.mtree")?.unwrap_or_else(|| Vec::new(rt.alloc()));
+    match report_manifest(rt.alloc(), base.as_slice())? {
+        Ok(listing) => {
+            ensure!(
+                read_file(&rt, "top.lay")?.is_none(),
+                "top.lay: layers are not read yet"
+            );
+            rt.stdout().write_all(listing.as_slice())?;
+            Ok(ExitCode::SUCCESS)
+        }
+        Err(line) => {
+            rt.print(line.as_str())?;
+            Ok(ExitCode::FAILURE)
+        }
     }
 }

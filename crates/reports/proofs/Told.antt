@@ -1,8 +1,8 @@
 -- What the steps of a report tell of it. Assumes nothing.
-use Rattle.std.proofs.Common.{◌≡◌, ℕ, ◌-◌, ◌<◌, ◌≤◌, Bool, true, false, cond, ltb, List, ◌++◌, length, take, drop, IfOk, Ok, Err, Result, sym, refl, ap, ◌∙◌, subst, arith}
+use Rattle.std.proofs.Common.{◌≡◌, ℕ, ◌-◌, ◌<◌, ◌≤◌, Bool, true, false, cond, ltb, List, ◌++◌, length, take, drop, IfOk, Ok, Err, Result, String, string_bytes, sym, refl, ap, ◌∙◌, subst, arith}
+use Rattle.std.specs.Global.{Global}
 use Rattle.std.specs.declared.alloc.AllocError.{AllocError}
 use Rattle.std.proofs.lemmas.List.{take_at, length-map}
-use Rattle.std.proofs.lemmas.Result.{IfOk-weaker}
 use Rattle.std.proofs.lemmas.Bool.{ltb-true, ltb-false, cond-false}
 use Rattle.rows.specs.declared.row.Row.{Row as Stored}
 use Rattle.rows.specs.Rows.{row_of, rows_of}
@@ -13,13 +13,11 @@ use Rattle.trees.specs.Entries.{Row}
 use Rattle.listing.specs.Lines.{listing}
 use Rattle.manifests.specs.declared.fault.ManifestFault.{ManifestFault}
 use Rattle.manifests.specs.Manifests.{indexed}
-use Rattle.base.specs.Loads.{Refused as Refusal}
+use Rattle.base.specs.Loads.{Refused}
 use Rattle.manifests.proofs.Limits.{index_then_load}
-use Rattle.reports.specs.declared.refusal.Reason.TheVariants.{Tree, Manifest}
-use Rattle.reports.specs.declared.report.Report.{Report}
-use Rattle.reports.specs.declared.report.Report.TheVariants.{Listed, Refused}
+use Rattle.reports.specs.declared.refusal.Reason.TheVariants.{Tree}
 use Rattle.reports.specs.Refusals.{refusal}
-use Rattle.reports.specs.Reports.{base_name, list_name, Lists, Refuses, Tells, Reports, Says}
+use Rattle.reports.specs.Reports.{list_name, Report, Lists, Tells, Reports}
 
 -- ---- a listing: `short` is the test that refuses the buffer
 
@@ -38,43 +36,25 @@ listed text old new held cut room len many answer after same is =
     let all = after ∙ cond-false (ltb (length old) (length text)) old (text ++ drop (length text) old) fits.0 in
     (subst (λ (n : ℕ). length text ≤ n) many (ltb-false (length old) (length text) fits.0), is ∙ ap (take len) (same ∙ all) ∙ take_at text (drop (length text) old) len fits.1)
 
-lists-refused : (rows : List Row) (o : Report) → 65536 < length (listing rows) → Says (refusal list_name (Tree ShortBuffer)) o → Lists rows o
-lists-refused rows (Listed text) long s = elim s [ ]
-lists-refused rows (Refused said) long s = (long, s)
-
 -- a buffer of 65,536 bytes is refused
-pub unlisted : (rows : List Row) (room : ℕ) (f : Fault) (r : Result Report AllocError) → room ≡ 65536 → ◌≡◌ {A = Result ℕ Fault} (Err f) (cond (ltb room (length (listing rows))) (Err ShortBuffer) (Ok (length (listing rows)))) → IfOk r (λ o. Says (refusal list_name (Tree f)) o) → IfOk r (λ o. Lists rows o)
-unlisted rows room f r many answer said =
+pub unlisted : (rows : List Row) (room : ℕ) (f : Fault) (said : String Global) → room ≡ 65536 → ◌≡◌ {A = Result ℕ Fault} (Err f) (cond (ltb room (length (listing rows))) (Err ShortBuffer) (Ok (length (listing rows)))) → string_bytes said ≡ refusal list_name (Tree f) → Lists rows (Err said)
+unlisted rows room f said many answer is =
     let no = denied (ltb room (length (listing rows))) f (length (listing rows)) answer in
-    let long = subst (λ (n : ℕ). n < length (listing rows)) many (ltb-true room (length (listing rows)) no.0) in
-    IfOk-weaker r (λ o. Says (refusal list_name (Tree ShortBuffer)) o) (λ o. Lists rows o) (λ o s. lists-refused rows o long s)
-    (subst (λ (g : Fault). IfOk r (λ o. Says (refusal list_name (Tree g)) o)) no.1 said)
+    (subst (λ (n : ℕ). n < length (listing rows)) many (ltb-true room (length (listing rows)) no.0), is ∙ ap (λ (g : Fault). refusal list_name (Tree g)) no.1)
 
--- ---- a manifest
+-- ---- a manifest, whose tree has the rows `held`
 
-says-refuses : (f : ManifestFault) (o : Report) → Says (refusal base_name (Manifest f)) o → Refuses f o
-says-refuses f (Listed text) s = elim s [ ]
-says-refuses f (Refused said) s = s
-
-pub refused-text : (base : List ℕ) (given : ℕ) (f : ManifestFault) (r : Result Report AllocError) → given ≡ 1024 → indexed given base ≡ Err f → IfOk r (λ o. Says (refusal base_name (Manifest f)) o) → IfOk r (λ o. Reports base o)
-refused-text base given f r many is said =
-    let at : indexed 1024 base ≡ Err f = ap (λ (n : ℕ). indexed n base) (sym many) ∙ is in
-    subst (λ (t : Result (List Row) ManifestFault). IfOk r (λ o. Tells t o)) (sym at)
-    (IfOk-weaker r (λ o. Says (refusal base_name (Manifest f)) o) (λ o. Refuses f o) (says-refuses f) said)
-
--- the tree holds the rows that the index has just written
-pub listed-text : (base : List ℕ) (given : ℕ) (rows part : List (Stored Entry)) (held : List Row) (r : Result Report AllocError) → given ≡ 1024 → indexed given base ≡ Ok (rows_of rows) → part ≡ rows → held ≡ rows_of part → IfOk r (λ o. Lists held o) → IfOk r (λ o. Reports base o)
-listed-text base given rows part held r many is same loaded told =
-    let at : indexed 1024 base ≡ Ok (rows_of rows) = ap (λ (n : ℕ). indexed n base) (sym many) ∙ is in
-    subst (λ (t : Result (List Row) ManifestFault). IfOk r (λ o. Tells t o)) (sym at)
-    (subst (λ (k : List Row). IfOk r (λ o. Lists k o)) (loaded ∙ ap rows_of same) told)
+pub listed-text : (base : List ℕ) (given : ℕ) (held : List Row) (r : Result Report AllocError) → given ≡ 1024 → indexed given base ≡ Ok held → IfOk r (λ o. Lists held o) → IfOk r (λ o. Reports base o)
+listed-text base given held r many is told =
+    let at : indexed 1024 base ≡ Ok held = ap (λ (n : ℕ). indexed n base) (sym many) ∙ is in
+    subst (λ (t : Result (List Row) ManifestFault). IfOk r (λ o. Tells t o)) (sym at) told
 
 -- the rows that the index has just written are not refused
-pub loads : (base : List ℕ) (given : ℕ) (rows part : List (Stored Entry)) (f : ManifestFault) → indexed given base ≡ Ok (rows_of rows) → part ≡ rows → Refusal (rows_of part) (indexed (length part) base) f → ⊥
+pub loads : (base : List ℕ) (given : ℕ) (rows part : List (Stored Entry)) (f : ManifestFault) → indexed given base ≡ Ok (rows_of rows) → part ≡ rows → Refused (rows_of part) (indexed (length part) base) f → ⊥
 loads base given rows part f is same why =
     let again = ap (λ (n : ℕ). indexed n base) (sym (length-map rows row_of)) ∙ (index_then_load given base (rows_of rows) is).2 in
-    let denies = subst (λ (p : List (Stored Entry)). Refusal (rows_of p) (indexed (length p) base) f) same why in
-    (subst (λ (t : Result (List Row) ManifestFault). Refusal (rows_of rows) t f) again denies).1 refl
+    let denies = subst (λ (p : List (Stored Entry)). Refused (rows_of p) (indexed (length p) base) f) same why in
+    (subst (λ (t : Result (List Row) ManifestFault). Refused (rows_of rows) t f) again denies).1 refl
 
 -- `&rows[0..count]`, of rows that are now `new`
 pub front : (held new : List (Stored Entry)) (count : ℕ) → held ≡ new → take (count - 0) held ≡ take count new

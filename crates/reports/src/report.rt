@@ -1,28 +1,21 @@
 // The listing of what a folder holds, or why there is none.
-ghost use Rattle.std.specs.Prelude.{IfOk};
-ghost use Rattle.reports.specs.Refusals.{refusal as refusal_of};
-ghost use Rattle.reports.specs.Reports.{Lists, Reports, Says};
+ghost use Rattle.std.specs.Prelude.{◌≡◌, length, Ok, Err, IfOk, MatchResult};
+ghost use Rattle.rows.specs.Sorts.{kept};
+ghost use Rattle.manifests.specs.Manifests.{indexed};
+ghost use Rattle.reports.specs.Reports.{Lists, Reports};
 
 use crate::refusal::{Reason, refusal};
 use base::Manifest;
 use listing::list;
+use manifests::fault::ManifestFault;
 use manifests::index::{blank_row, index};
+use rows::row::Row;
 use std::alloc::{AllocError, Global};
+use trees::entry::Entry;
 use trees::tree::Tree;
 
-#[derive(Drop)]
-pub enum Report {
-    // The listing.
-    Listed(Vec<u8>),
-    // The one line of a refusal.
-    Refused(String),
-}
-
-fn refuse(heap: Global, subject: &str, reason: Reason) -> Result<Report, AllocError>
-    ensures { IfOk result (λ o. Says (refusal_of subject.now reason) o) }
-{
-    Ok(Report::Refused(refusal(heap, subject, reason)?))
-}
+// The listing, or the one line of a refusal.
+pub type Report = Result<Vec<u8>, String>;
 
 // The listing of a tree, in at most 65,536 bytes.
 pub fn report_tree<T: Tree>(heap: Global, tree: &T) -> Result<Report, AllocError>
@@ -32,10 +25,23 @@ pub fn report_tree<T: Tree>(heap: Global, tree: &T) -> Result<Report, AllocError
     match list(tree, buffer.as_mut_slice()) {
         Ok(len) => {
             buffer.truncate(len);
-            Ok(Report::Listed(buffer))
+            Ok(Ok(buffer))
         }
-        Err(fault) => refuse(heap, "list", Reason::Tree(fault)),
+        Err(fault) => Ok(Err(refusal(heap, "list", Reason::Tree(fault))?)),
     }
+}
+
+// The tree of a manifest's text, over rows that are lent for it.
+pub fn manifest_tree<'a>(
+    text: &[u8],
+    rows: &'a mut [Row<Entry>],
+) -> Result<Manifest<'a>, ManifestFault>
+    ensures { MatchResult result (λ m. indexed (length rows.old) text.now ≡ Ok (kept m.rows)) (λ f. indexed (length rows.old) text.now ≡ Err f) }
+{
+    let count = index(text, rows)?;
+    let mut tree = Manifest::empty();
+    tree.load(text, &rows[0..count])?;
+    Ok(tree)
 }
 
 // The listing of a manifest's text.
@@ -43,13 +49,8 @@ pub fn report_manifest(heap: Global, base: &[u8]) -> Result<Report, AllocError>
     ensures { IfOk result (λ o. Reports base.now o) }
 {
     let mut rows = vec![in heap; blank_row(); 1024]?;
-    let count = match index(base, rows.as_mut_slice()) {
-        Ok(count) => count,
-        Err(fault) => return refuse(heap, "base.mtree", Reason::Manifest(fault)),
-    };
-    let mut tree = Manifest::empty();
-    if let Err(fault) = tree.load(base, &rows[0..count]) {
-        return refuse(heap, "base.mtree", Reason::Manifest(fault));
+    match manifest_tree(base, rows.as_mut_slice()) {
+        Ok(tree) => report_tree(heap, &tree),
+        Err(fault) => Ok(Err(refusal(heap, "base.mtree", Reason::Manifest(fault))?)),
     }
-    report_tree(heap, &tree)
 }

@@ -16,7 +16,7 @@ returns-in-Ok g c =
     let is = with_items_is buffer new (c.list.auto.buffer ∙ lent.len) in
     listed (listing (g.T.Tree.entries c.args.tree.now).rows) c.as_mut_slice.result.now new (vec_items (with_items buffer new)) (vec_items c.truncate.new.self) 65536 c.in-Ok.len many told.answer told.after is c.truncate.ensures.items
 
-pub returns-in-Err : goal.returns-in-Err
-returns-in-Err g c =
+pub returns-in_ok-refusal-in-Err : goal.returns-in_ok-refusal-in-Err
+returns-in_ok-refusal-in-Err g c =
     let many = c.as_mut_slice.ensures.len ∙ c.in_ok-buffer.ensures.len in
-    unlisted (g.T.Tree.entries c.args.tree.now).rows (length c.as_mut_slice.result.now) c.in-Err.fault c.refuse.result many c.in-Err.ensures.answer c.refuse.ensures
+    unlisted (g.T.Tree.entries c.args.tree.now).rows (length c.as_mut_slice.result.now) c.in-Err.fault c.in_ok-refusal-in-Err.field-0 many c.in-Err.ensures.answer c.in_ok-refusal-in-Err.ensures
