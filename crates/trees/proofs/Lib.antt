@@ -1,5 +1,6 @@
 pub mod Grown
 pub mod Closed
 pub mod Prefixed
+pub mod Ranges
 pub mod Stepped
 pub mod Answering

@@ -1,20 +1,10 @@
--- The next name of a directory. Assumes nothing.
-use Rattle.std.proofs.Common.{◌≡◌, ℕ, ◌+◌, ◌≤◌, false, ltb, List, [], ◌∷◌, length, is_some, Some, Ok, Err, ap, ◌∙◌, arith}
-use Rattle.std.proofs.lemmas.Bool.{cond-false, le-ltb}
+-- The last name of a path. Assumes nothing.
+use Rattle.std.proofs.Common.{◌≡◌, ℕ, ◌+◌, ◌≤◌, false, [], ◌∷◌, length, is_some, arith}
 use Rattle.paths.specs.declared.Path.{Path}
-use Rattle.paths.specs.Names.{judge, fault_in, last_name}
+use Rattle.paths.specs.Names.{fault_in, last_name}
 use Rattle.paths.specs.Paths.{text, names}
 use Rattle.paths.proofs.Joins.{good_parts, fault_parts, name_parts}
-use Rattle.rows.specs.Maps.{Names, at}
-use Rattle.trees.specs.declared.entry.DirMeta.{DirMeta}
-use Rattle.trees.specs.declared.entry.Entry.TheVariants.{Dir}
-use Rattle.trees.specs.declared.fault.Fault.TheVariants.{ShortBuffer}
-use Rattle.trees.specs.Entries.{Row}
-use Rattle.trees.specs.Answers.{name_after, next_of, next_in, next_at}
-
-pub stepped : (rs : List Row) (s a : List ℕ) (n : ℕ) (p : Names) (m : DirMeta) → judge s ≡ Ok p → at rs p ≡ Some (Dir m) → 40 ≤ n → next_of rs s a n ≡ Ok (name_after rs p a)
-stepped rs s a n p m j e h =
-    ap (next_in rs a n) j ∙ ap (next_at rs p a n) e ∙ cond-false (ltb n 40) (Err ShortBuffer) (Ok (name_after rs p a)) (le-ltb n 40 h)
+use Rattle.rows.specs.Maps.{Names}
 
 last_short : (k : ℕ) (ns : Names) → is_some (fault_in k ns) ≡ false → length (last_name ns) ≤ 40
 last_short k [] h = omega arith
