@@ -19,6 +19,7 @@ use Rattle.trees.specs.Entries.{Entries, Row, is_dir, closed, fine}
 use Rattle.trees.specs.Answers.{next_of, next_in, next_at, counted, put_name}
 use Rattle.rows.proofs.Orders.{same-is, as_child, no_name_least}
 use Rattle.rows.proofs.Firsts.{In, first_some, first_no, in-there}
+use Rattle.trees.proofs.Grown.{is_none}
 use Rattle.trees.proofs.Closed.{is-fine, up-dir}
 
 pub fine_parts : (p : List (List ℕ)) → fine p ≡ true → (is_some (fault_in 0 p) ≡ false) × (leb (length (join p)) 120 ≡ true)
@@ -26,12 +27,8 @@ fine_parts p h =
     let q = and_parts (not (is_some (fault_in 0 p))) (leb (length (join p)) 120) h in
     (not-true (is_some (fault_in 0 p)) q.0, q.1)
 
-no_fault : {A : Type 0} (o : Option A) → is_some o ≡ false → o ≡ None
-no_fault None h = refl
-no_fault (Some x) h = absurd (true≢false h)
-
 pub judge-good : (s : List ℕ) → good s ≡ true → judge s ≡ Ok (split s)
-judge-good s g = ap (judged (split s)) (no_fault (fault s) (not-true (is_some (fault s)) g))
+judge-good s g = ap (judged (split s)) (is_none (fault s) (not-true (is_some (fault s)) g))
 
 module _ (rs : List Row) (a : ascending rs ≡ true) (c : closed rs rs ≡ true) (ns : List (List ℕ)) (after : List ℕ) where
   pub child-is : (r : Row) → is_child ns after r ≡ true → r.0 ≡ ns ++ last_name r.0 ∷ []
@@ -66,7 +63,7 @@ module _ (rs : List Row) (a : ascending rs ≡ true) (c : closed rs rs ≡ true)
       let p = fine_parts (ns ++ n ∷ []) f in
       let e : fault_in 0 (ns ++ n ∷ []) ≡ fault_in (length ns) (n ∷ []) = fault-append 0 ns (n ∷ []) g ∙ ap (λ j. fault_in j (n ∷ [])) (zero-add (length ns)) in
       let k : is_some (fault_in (length ns) (n ∷ [])) ≡ false = sym (ap is_some e) ∙ p.0 in (
-        child_short ns n (leb-true (length (join (ns ++ n ∷ []))) 120 p.1) ∙ no_fault (fault_in (length ns) (n ∷ [])) k,
+        child_short ns n (leb-true (length (join (ns ++ n ∷ []))) 120 p.1) ∙ is_none (fault_in (length ns) (n ∷ [])) k,
         (name_parts n (fault_parts (length ns) n [] k).1).1,
       )
 

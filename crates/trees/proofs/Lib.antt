@@ -2,5 +2,5 @@ pub mod Grown
 pub mod Closed
 pub mod Prefixed
 pub mod Ranges
-pub mod Stepped
+pub mod Lasts
 pub mod Answering

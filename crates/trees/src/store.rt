@@ -67,7 +67,7 @@ pub fn look<S: Store>(store: &S, path: &[u8]) -> Result<Entry, Fault>
 }
 
 // Writes the last name of a path to the front of a buffer, and answers its length.
-#[tactic(auto, using(std::proofs::lemmas::Grind::common_steps, crate::proofs::Stepped::short_last))]
+#[tactic(auto, using(std::proofs::lemmas::Grind::common_steps, crate::proofs::Lasts::short_last))]
 fn put_last(child: Option<Path>, buffer: &mut [u8]) -> Option<usize>
     requires { 40 ≤ length buffer.old }
     ensures exact { result ≡ option_map length (option_map last_name (option_map names child)) }

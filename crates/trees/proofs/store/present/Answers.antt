@@ -2,7 +2,8 @@ use Rattle.std.proofs.Common.{rules, tests, length, take, ◌∙◌}
 use Rattle.std.proofs.lemmas.Iterator.Consumers.{YieldsList-from_filter, count_from_yields_List}
 use Rattle.paths.specs.Paths.{names}
 use Rattle.rows.specs.Maps.{has}
-use Rattle.trees.proofs.Ranges.{YieldsList-to, held_all}
+use Rattle.trees.proofs.Prefixed.{held_all}
+use Rattle.trees.proofs.Ranges.{YieldsList-to}
 use Rattle.trees.proofs.store.present.Goals as goal
 
 pub returns : goal.returns
