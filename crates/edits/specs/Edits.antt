@@ -11,7 +11,7 @@ use Rattle.trees.specs.declared.entry.Entry.{Entry}
 use Rattle.trees.specs.declared.entry.Entry.TheVariants.{File, Dir}
 use Rattle.trees.specs.declared.fault.Fault.{Fault}
 use Rattle.trees.specs.declared.fault.Fault.TheVariants.{Path, IsDirectory, Exists, NotEmpty, Root, OutOfRange, NoRoom}
-use Rattle.trees.specs.Entries.{Row, is_dir, in_range}
+use Rattle.trees.specs.Entries.{Entries, Row, is_dir, in_range}
 pub use Rattle.trees.specs.Entries.{with_mode}
 use Rattle.trees.specs.Answers.{present, lost}
 
@@ -132,3 +132,7 @@ pub record Outcome (rs rs' : List Row) (room room' : ℕ) (needs needs' : Names 
   pub answer : r ≡ answered (refusal rs room needs s a)
   pub entries : rs' ≡ after_edit rs room needs s a
   pub spent : Spent room room' needs needs' (refusal rs room needs s a) (judge s) a
+
+-- the same of an editable tree: of its entries, its room and its needs
+abbrev pub OutcomeOf : {T : Type 0} → (T → Entries) → (T → ℕ) → (T → Names → ℕ) → T → T → List ℕ → Action → Result (Unit {0}) Fault → Type 0
+OutcomeOf entries spare needs t t' s a r = Outcome (entries t).rows (entries t').rows (spare t) (spare t') (needs t) (needs t') s a r

@@ -1,150 +1,91 @@
 // The checks of an edit, in their order, and the entry that it leaves.
-ghost use Rattle.std.specs.Prelude.{◌≡◌, not, nat_le, nat_lt};
-ghost use Rattle.std.specs.Option.{option_or};
+ghost use Rattle.std.specs.Prelude.{◌≡◌, nat_lt};
 ghost use Rattle.paths.specs.Paths.{names};
-ghost use Rattle.rows.specs.Maps.{at, has};
-ghost use Rattle.trees.specs.declared.entry.Entry.TheVariants.{File as FileEntry};
-ghost use Rattle.trees.specs.declared.fault.Fault.TheVariants.{IsDirectory, Exists, NotEmpty, OutOfRange, NoRoom};
-ghost use Rattle.trees.specs.Entries.{in_range, is_dir};
-ghost use Rattle.trees.specs.Answers.{present};
-ghost use Rattle.edits.specs.Edits.{refuse_if, has_child, value_fault, root_fault, parent_fault, absent_fault, place_fault, refused_at, answered, new_entry};
+ghost use Rattle.trees.specs.declared.fault.Fault.TheVariants.{NoRoom};
+ghost use Rattle.edits.specs.Edits.{refuse_if, value_fault, root_fault, parent_fault, absent_fault, place_fault, refused_at, answered, new_entry};
 
 use crate::action::Action;
 use paths::Path;
-use trees::entry::{DirMeta, Entry, FileMeta};
+use trees::entry::{DirMeta, Entry};
 use trees::fault::Fault;
-use trees::store::{Store, lost, way};
-
-fn file_in_range(mode: u16, size: u64, content: u64) -> bool
-    ensures { result ≡ in_range (FileEntry (record { mode = mode; size = size; content = content })) }
-{
-    mode <= 0o7777 && size <= 1 << 40 && content <= u64::MAX
-}
-
-fn check_mode(mode: u16) -> Result<(), Fault>
-    ensures { result ≡ answered (refuse_if (not (nat_le mode 4095)) OutOfRange) }
-{
-    if mode <= 0o7777 {
-        Ok(())
-    } else {
-        Err(Fault::OutOfRange)
-    }
-}
+use trees::store::{Store, lost, present};
 
 fn check_values(action: Action) -> Result<(), Fault>
     ensures { result ≡ answered (value_fault action) }
 {
-    match action {
-        Action::Put(entry) => match entry {
-            Entry::File(file) => {
-                if file_in_range(file.mode, file.size, file.content) {
-                    Ok(())
-                } else {
-                    Err(Fault::OutOfRange)
-                }
-            }
-            Entry::Dir(_) => Err(Fault::OutOfRange),
-        },
-        Action::Mkdir(mode) => check_mode(mode),
-        Action::Chmod(mode) => check_mode(mode),
-        Action::Remove => Ok(()),
+    let fine = match action {
+        Action::Put(entry) => entry.is_file() && entry.is_in_range(),
+        Action::Mkdir(mode) | Action::Chmod(mode) => mode <= 0o7777,
+        Action::Remove => true,
+    };
+    if !fine {
+        return Err(Fault::OutOfRange);
     }
+    Ok(())
 }
 
 fn check_root(path: &Path, action: Action) -> Result<(), Fault>
     ensures { result ≡ answered (root_fault (names path.now) action) }
 {
-    match action {
-        Action::Chmod(_) => Ok(()),
-        _ => {
-            if path.depth() == 0 {
-                Err(Fault::Root)
-            } else {
-                Ok(())
-            }
-        }
-    }
-}
-
-fn is_dir(found: Option<Entry>) -> bool
-    ensures { result ≡ is_dir found }
-{
-    match found {
-        Some(entry) => match entry {
-            Entry::File(_) => false,
-            Entry::Dir(_) => true,
-        },
-        None => false,
-    }
-}
-
-fn check_parent<S: Store>(store: &S, path: &Path) -> Result<(), Fault>
-    ensures { result ≡ answered (parent_fault (S.Store.stored store.now).rows (names path.now)) }
-{
-    let up = path.parent().unwrap_or(*path);
-    if is_dir(store.entry(&up)) {
-        Ok(())
-    } else {
-        Err(lost(store, &up))
-    }
-}
-
-fn check_present<S: Store>(store: &S, path: &Path) -> Result<(), Fault>
-    ensures { result ≡ answered (absent_fault (S.Store.stored store.now).rows (names path.now)) }
-{
-    match store.entry(path) {
-        Some(_) => Ok(()),
-        None => Err(lost(store, path)),
-    }
-}
-
-// No directory is there.
-fn check_no_dir<S: Store>(store: &S, path: &Path) -> Result<(), Fault>
-    ensures { result ≡ answered (refuse_if (is_dir (at (S.Store.stored store.now).rows (names path.now))) (IsDirectory (present (S.Store.stored store.now).rows (names path.now)))) }
-{
-    if is_dir(store.entry(path)) {
-        return Err(Fault::IsDirectory(way(store, path).0));
+    if path.depth() == 0 && !matches!(action, Action::Chmod(_)) {
+        return Err(Fault::Root);
     }
     Ok(())
 }
 
-// Nothing is there.
-fn check_free<S: Store>(store: &S, path: &Path) -> Result<(), Fault>
-    ensures { result ≡ answered (refuse_if (has (S.Store.stored store.now).rows (names path.now)) (Exists (present (S.Store.stored store.now).rows (names path.now)))) }
-{
-    match store.entry(path) {
-        Some(_) => Err(Fault::Exists(way(store, path).0)),
-        None => Ok(()),
-    }
+// Where an edit is made.
+#[derive(Drop)]
+struct Target<'a, S> {
+    store: &'a S,
+    path: &'a Path,
 }
 
-// Nothing is below.
-fn check_empty<S: Store>(store: &S, path: &Path) -> Result<(), Fault>
-    ensures { result ≡ answered (refuse_if (has_child (S.Store.stored store.now).rows (names path.now)) (NotEmpty (present (S.Store.stored store.now).rows (names path.now)))) }
-{
-    match store.child_after(path, &[]) {
-        Some(_) => Err(Fault::NotEmpty(way(store, path).0)),
-        None => Ok(()),
+impl<'a, S: Store> Target<'a, S> {
+    fn check_parent(&self) -> Result<(), Fault>
+        ensures { result ≡ answered (parent_fault (S.Store.stored self.now.store.now).rows (names self.now.path.now)) }
+    {
+        let up = self.path.parent().unwrap_or(*self.path);
+        if !self.store.entry(&up).is_some_and(|e| e.is_dir()) {
+            return Err(lost(self.store, &up));
+        }
+        Ok(())
     }
-}
 
-fn check_place<S: Store>(store: &S, path: &Path, action: Action) -> Result<(), Fault>
-    ensures { result ≡ answered (place_fault (S.Store.stored store.now).rows (names path.now) action) }
-{
-    match action {
-        Action::Put(_) => match check_parent(store, path) {
-            Ok(_) => check_no_dir(store, path),
-            Err(fault) => Err(fault),
-        },
-        Action::Mkdir(_) => match check_parent(store, path) {
-            Ok(_) => check_free(store, path),
-            Err(fault) => Err(fault),
-        },
-        Action::Chmod(_) => check_present(store, path),
-        Action::Remove => match check_present(store, path) {
-            Ok(_) => check_empty(store, path),
-            Err(fault) => Err(fault),
-        },
+    fn check_present(&self) -> Result<(), Fault>
+        ensures { result ≡ answered (absent_fault (S.Store.stored self.now.store.now).rows (names self.now.path.now)) }
+    {
+        if self.store.entry(self.path).is_none() {
+            return Err(lost(self.store, self.path));
+        }
+        Ok(())
+    }
+
+    // First what is missing, then what is in the way.
+    fn check(&self, action: Action) -> Result<(), Fault>
+        ensures { result ≡ answered (place_fault (S.Store.stored self.now.store.now).rows (names self.now.path.now) action) }
+    {
+        match action {
+            Action::Put(_) => {
+                self.check_parent()?;
+                if self.store.entry(self.path).is_some_and(|e| e.is_dir()) {
+                    return Err(Fault::IsDirectory(present(self.store, self.path)));
+                }
+            }
+            Action::Mkdir(_) => {
+                self.check_parent()?;
+                if self.store.entry(self.path).is_some() {
+                    return Err(Fault::Exists(present(self.store, self.path)));
+                }
+            }
+            Action::Chmod(_) => self.check_present()?,
+            Action::Remove => {
+                self.check_present()?;
+                if self.store.child_after(self.path, &[]).is_some() {
+                    return Err(Fault::NotEmpty(present(self.store, self.path)));
+                }
+            }
+        }
+        Ok(())
     }
 }
 
@@ -155,22 +96,6 @@ fn check_room(room: usize, need: usize) -> Result<(), Fault>
         return Err(Fault::NoRoom(need));
     }
     Ok(())
-}
-
-// What is there, and then the room.
-fn check_state<S: Store>(
-    store: &S,
-    path: &Path,
-    action: Action,
-    room: usize,
-    need: usize,
-) -> Result<(), Fault>
-    ensures { result ≡ answered (option_or (place_fault (S.Store.stored store.now).rows (names path.now) action) (refuse_if (nat_lt room need) (NoRoom need))) }
-{
-    match check_place(store, path, action) {
-        Ok(_) => check_room(room, need),
-        Err(fault) => Err(fault),
-    }
 }
 
 // The checks of an edit at a good path, in their order: its values, the root, what is there, the room.
@@ -185,7 +110,8 @@ pub fn check<S: Store>(
 {
     check_values(action)?;
     check_root(path, action)?;
-    check_state(store, path, action, room, need)
+    Target { store, path }.check(action)?;
+    check_room(room, need)
 }
 
 // What stands at the path after an edit, in place of what was found there.
@@ -195,17 +121,7 @@ pub fn entry_after(action: Action, found: Option<Entry>) -> Option<Entry>
     match action {
         Action::Put(entry) => Some(entry),
         Action::Mkdir(mode) => Some(Entry::Dir(DirMeta { mode })),
-        Action::Chmod(mode) => match found {
-            Some(entry) => match entry {
-                Entry::File(file) => Some(Entry::File(FileMeta {
-                    mode,
-                    size: file.size,
-                    content: file.content,
-                })),
-                Entry::Dir(_) => Some(Entry::Dir(DirMeta { mode })),
-            },
-            None => None,
-        },
+        Action::Chmod(mode) => found.map(|entry| entry.with_mode(mode)),
         Action::Remove => None,
     }
 }

@@ -2,7 +2,7 @@
 ghost use Rattle.std.specs.Prelude.{◌≡◌, ℕ, ◌+◌, ◌≤◌, length};
 ghost use Rattle.rows.specs.Maps.{Names};
 ghost use Rattle.edits.specs.declared.action.Action.TheVariants.{Put, Mkdir, Chmod, Remove};
-ghost use Rattle.edits.specs.Edits.{Outcome, need_of};
+ghost use Rattle.edits.specs.Edits.{OutcomeOf, need_of};
 
 use crate::action::Action;
 use trees::entry::Entry;
@@ -23,30 +23,30 @@ pub trait Editable: Tree {
 
     // Makes one change at a path, or refuses and leaves all as it was.
     fn edit(&mut self, path: &[u8], action: Action) -> Result<(), Fault>
-        ensures { Outcome (Self.Tree.entries self.old).rows (Self.Tree.entries self.new).rows (spare self.old) (spare self.new) (needs self.old) (needs self.new) path.now action result };
+        ensures { OutcomeOf Self.Tree.entries spare needs self.old self.new path.now action result };
 
     // A file, new or in place of one.
     fn put(&mut self, path: &[u8], entry: Entry) -> Result<(), Fault>
-        ensures { Outcome (Self.Tree.entries self.old).rows (Self.Tree.entries self.new).rows (spare self.old) (spare self.new) (needs self.old) (needs self.new) path.now (Put entry) result }
+        ensures { OutcomeOf Self.Tree.entries spare needs self.old self.new path.now (Put entry) result }
     {
         self.edit(path, Action::Put(entry))
     }
 
     fn mkdir(&mut self, path: &[u8], mode: u16) -> Result<(), Fault>
-        ensures { Outcome (Self.Tree.entries self.old).rows (Self.Tree.entries self.new).rows (spare self.old) (spare self.new) (needs self.old) (needs self.new) path.now (Mkdir mode) result }
+        ensures { OutcomeOf Self.Tree.entries spare needs self.old self.new path.now (Mkdir mode) result }
     {
         self.edit(path, Action::Mkdir(mode))
     }
 
     fn chmod(&mut self, path: &[u8], mode: u16) -> Result<(), Fault>
-        ensures { Outcome (Self.Tree.entries self.old).rows (Self.Tree.entries self.new).rows (spare self.old) (spare self.new) (needs self.old) (needs self.new) path.now (Chmod mode) result }
+        ensures { OutcomeOf Self.Tree.entries spare needs self.old self.new path.now (Chmod mode) result }
     {
         self.edit(path, Action::Chmod(mode))
     }
 
     // Takes out a file, or a directory without a child.
     fn remove(&mut self, path: &[u8]) -> Result<(), Fault>
-        ensures { Outcome (Self.Tree.entries self.old).rows (Self.Tree.entries self.new).rows (spare self.old) (spare self.new) (needs self.old) (needs self.new) path.now Remove result }
+        ensures { OutcomeOf Self.Tree.entries spare needs self.old self.new path.now Remove result }
     {
         self.edit(path, Action::Remove)
     }

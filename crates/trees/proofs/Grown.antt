@@ -1,12 +1,16 @@
 -- Rows of which each path is good, each value passes, and each parent is a directory. Assumes nothing.
 use Rattle.std.proofs.Common.{◌≡◌, ℕ, Bool, true, false, ◌&&◌, List, [], ◌∷◌, ◌++◌, is_some, Some, None, Option, sym, refl, ap, ◌∙◌, subst, inl, inr, ⊎_elim}
-use Rattle.std.proofs.lemmas.Bool.{true≢false, and_parts, and_from}
+use Rattle.std.proofs.lemmas.Bool.{true≢false, both_ways, and_parts, and_from}
 use Rattle.paths.specs.Names.{parent}
 use Rattle.rows.specs.Maps.{Names, at, has, ascending, rooted, under}
 use Rattle.rows.proofs.Orders.{parent-child}
 use Rattle.rows.proofs.Firsts.{In, there, at-holds, holds_at, child-there}
 use Rattle.rows.proofs.Unders.{strictly}
 use Rattle.trees.specs.Entries.{fine, grown}
+
+pub is_none : {V : Type 0} (o : Option V) → is_some o ≡ false → o ≡ None
+is_none None h = refl
+is_none (Some v) h = absurd (true≢false h)
 
 -- what is said of one row
 pub record Sound {V : Type 0} (passes : V → Bool) (dir : Option V → Bool) (all : List (Names × V)) (r : Names × V) : Type 0 where
@@ -66,7 +70,7 @@ module _ {V : Type 0} (passes : V → Bool) (dir : Option V → Bool) where
           ap (λ z. dir (at rs z)) (sym (parent-child p c.0)) ∙ (sound-at rs g (p ++ c.0 ∷ []) t.0 t.1).under
 
       pub none_below : (p q : Names) → under p q ≡ true → under q p ≡ false → dir (at rs p) ≡ false → at rs q ≡ None
-      none_below p q u w d = none (at rs q) (λ h. true≢false (sym (dir-above p q u w h) ∙ d)) where
-        none : (o : Option V) → (is_some o ≡ true → ⊥) → o ≡ None
-        none None f = refl
-        none (Some v) f = absurd (f refl)
+      none_below p q u w d = go (at rs q) refl where
+        go : (o : Option V) → at rs q ≡ o → o ≡ None
+        go None e = refl
+        go (Some v) e = absurd (both_ways (dir (at rs p)) d (dir-above p q u w (ap is_some e)))

@@ -1,5 +1,6 @@
 pub mod Grown
 pub mod Closed
 pub mod Prefixed
-pub mod Stepped
+pub mod Ranges
+pub mod Lasts
 pub mod Answering

@@ -12,10 +12,7 @@ use paths::Path;
 pub fn entry_at<T: Tree>(tree: &T, path: &Path) -> Option<Entry>
     ensures { result ≡ at (T.Tree.entries tree.now).rows (names path.now) }
 {
-    match tree.look(path.as_bytes()) {
-        Ok(entry) => Some(entry),
-        Err(_) => None,
-    }
+    tree.look(path.as_bytes()).ok()
 }
 
 // The child of a path whose name is the least above `after`.
@@ -23,12 +20,6 @@ pub fn child_after<T: Tree>(tree: &T, path: &Path, after: &[u8]) -> Option<Path>
     ensures { option_map names result ≡ child_path (T.Tree.entries tree.now).rows (names path.now) after.now }
 {
     let mut name = [0; 40];
-    match tree.next(path.as_bytes(), after, &mut name) {
-        Ok(Some(n)) => match path.child(&name[0..n]) {
-            Ok(child) => Some(child),
-            Err(_) => None,
-        },
-        Ok(None) => None,
-        Err(_) => None,
-    }
+    let n = tree.next(path.as_bytes(), after, &mut name).ok()??;
+    path.child(&name[..n]).ok()
 }

@@ -3,7 +3,6 @@
 ghost use Rattle.std.specs.Prelude.{◌≡◌, Some};
 ghost use Rattle.trees.specs.declared.fault.Fault.TheVariants.{Path as PathFaulty};
 ghost use Rattle.trees.specs.Faults.{fields};
-ghost use Rattle.trees.specs.Numbers.{said};
 
 use paths::PathFault;
 use std::fmt;
@@ -40,33 +39,23 @@ impl From<PathFault> for Fault {
     }
 }
 
-impl Fault {
-    // The cause and the place; a path's fault has its own.
-    fn numbers(self) -> Result<(u8, usize), PathFault>
-        ensures { said result ≡ fields self }
-    {
-        match self {
-            Fault::Path(fault) => Err(fault),
-            Fault::Missing(place) => Ok((10, place)),
-            Fault::NotDirectory(place) => Ok((11, place)),
-            Fault::IsDirectory(place) => Ok((12, place)),
-            Fault::Exists(place) => Ok((13, place)),
-            Fault::NotEmpty(place) => Ok((15, place)),
-            Fault::Root => Ok((16, 0)),
-            Fault::OutOfRange => Ok((17, 0)),
-            Fault::NoRoom(need) => Ok((20, need)),
-            Fault::ShortBuffer => Ok((21, 0)),
-        }
-    }
-}
-
 impl fmt::Display for Fault {
     ghost output = { λ f. Some (fields f) };
 
     fn fmt<W: fmt::Write>(&self, f: &mut fmt::Formatter<W>) -> fmt::Result {
-        match self.numbers() {
-            Ok((cause, place)) => write!(f, "t {cause} {place}"),
-            Err(fault) => write!(f, "{fault}"),
-        }
+        let (cause, place): (u8, usize) = match *self {
+            // A path's fault has its own cause and place.
+            Fault::Path(fault) => return write!(f, "{fault}"),
+            Fault::Missing(place) => (10, place),
+            Fault::NotDirectory(place) => (11, place),
+            Fault::IsDirectory(place) => (12, place),
+            Fault::Exists(place) => (13, place),
+            Fault::NotEmpty(place) => (15, place),
+            Fault::Root => (16, 0),
+            Fault::OutOfRange => (17, 0),
+            Fault::NoRoom(need) => (20, need),
+            Fault::ShortBuffer => (21, 0),
+        };
+        write!(f, "t {cause} {place}")
     }
 }

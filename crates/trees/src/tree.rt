@@ -6,6 +6,8 @@ ghost use Rattle.trees.specs.Answers.{look_of, next_of, counted, put_name};
 use crate::entry::Entry;
 use crate::fault::Fault;
 
+// Not given to each `Store` at once: that would overlap the impl for `&T` below, and a `Store` asked of each tree
+// would ask more of those who have none.
 pub trait Tree {
     ghost entries: { Self → Entries };
 
