@@ -7,11 +7,7 @@ use Rattle.std.proofs.lemmas.Bool.Decides.{nat_tests}
 use Rattle.paths.specs.Names.{same}
 use Rattle.paths.specs.Pieces.{front}
 use Rattle.words.specs.declared.fault.Cause.TheVariants.{Keyword}
-use Rattle.mtree.specs.Lexed.{NextField}
-use Rattle.mtree.specs.Keywords.{expected}
-
-abbrev pub IsKey : List ℕ → Type 0
-IsKey key = key ≡ front 61 key ++ 61 ∷ []
+use Rattle.mtree.specs.Keywords.{IsKey, expected}
 
 -- the field has a `=`, and that name before the first
 abbrev pub named : List ℕ → List ℕ → Bool
@@ -73,9 +69,8 @@ Stripped key k r =
     MatchOption r (begun key k ≡ false) (λ x. (begun key k ≡ true) × (x.now ≡ drop (length key) k) × (length x.now + length key ≡ length k))
 
 -- what the next field has behind the key
-pub found : (key : List ℕ) (ks : List (List ℕ)) (f : Bor (List ℕ)) (r : Option (Bor (List ℕ))) → IsKey key → NextField ks (Some f) → Stripped key f.now r → MatchResult (ok_or r Keyword) (λ v. expected (front 61 key) ks ≡ Ok v.now) (λ e. expected (front 61 key) ks ≡ Err e)
-found key [] f r e n m = cc
-found key (k ∷ ks) f None e n m = cond-false (named (front 61 key) k) _ _ (named-begun key k e ∙ ap (begun key) (sym n) ∙ m)
-found key (k ∷ ks) f (Some x) e n m =
-    let h = named-begun key k e ∙ ap (begun key) (sym n) ∙ m.0 in
-    cond-true (named (front 61 key) k) _ _ h ∙ ap Ok (ap (λ i. drop i k) (behind_key key k e h) ∙ ap (drop (length key)) (sym n) ∙ sym m.1)
+pub found : (key k : List ℕ) (ks ls : List (List ℕ)) (r : Option (Bor (List ℕ))) → IsKey key → ks ≡ k ∷ ls → Stripped key k r → MatchResult (ok_or r Keyword) (λ v. expected (front 61 key) ks ≡ Ok v.now) (λ e. expected (front 61 key) ks ≡ Err e)
+found key k ks ls None e is m = ap (expected (front 61 key)) is ∙ cond-false (named (front 61 key) k) _ _ (named-begun key k e ∙ m)
+found key k ks ls (Some x) e is m =
+    let h = named-begun key k e ∙ m.0 in
+    ap (expected (front 61 key)) is ∙ cond-true (named (front 61 key) k) _ _ h ∙ ap Ok (ap (λ i. drop i k) (behind_key key k e h) ∙ sym m.1)

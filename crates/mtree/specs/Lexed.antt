@@ -1,5 +1,5 @@
 -- The fields of a line, one behind the other. Assumes nothing.
-use Rattle.std.specs.Prelude.{◌≡◌, ℕ, List, [], ◌∷◌, Some, None, Option}
+use Rattle.std.specs.Prelude.{ℕ, List, [], ◌∷◌, Some, None, Option}
 use Rattle.std.specs.Borrow.{Bor}
 use Rattle.paths.specs.Pieces.{pieces}
 use Rattle.mtree.specs.declared.fields.Fields.{Fields}
@@ -15,9 +15,3 @@ fields_in (Some rest) = pieces 32 rest.now
 -- the fields of the line that are not read yet
 abbrev pub unread : Fields → List (List ℕ)
 unread f = fields_in f.rest
-
--- the first of these fields, if there is one
-abbrev pub NextField : List (List ℕ) → Option (Bor (List ℕ)) → Type 0
-NextField [] r = r ≡ None
-NextField (k ∷ ks) None = ⊥
-NextField (k ∷ ks) (Some f) = f.now ≡ k

@@ -1,8 +1,8 @@
 // The entry that the keywords of a line give, judged from the left.
-ghost use Rattle.std.specs.Prelude.{◌≡◌, ◌∷◌, [], ◌++◌, Option, Ok, Err, MatchResult};
+ghost use Rattle.std.specs.Prelude.{◌≡◌, Option, Ok, Err, MatchResult};
 ghost use Rattle.paths.specs.Pieces.{front};
 ghost use Rattle.mtree.specs.Lexed.{unread, tail};
-ghost use Rattle.mtree.specs.Keywords.{expected, no_more, dir_of, file_of, entry_of};
+ghost use Rattle.mtree.specs.Keywords.{IsKey, expected, no_more, dir_of, file_of, entry_of};
 ghost use Rattle.std.specs.Option.{ok_or};
 ghost use Rattle.std.specs.Fn.{FnOnceReturnsAt};
 
@@ -14,7 +14,7 @@ use words::fault::Cause;
 impl<'a> Fields<'a> {
     // The value of the next field, which has to begin with that key: a name and a `=`.
     fn value(&mut self, key: &[u8]) -> Result<&'a [u8], Cause>
-        requires { key.now ≡ front 61 key.now ++ 61 ∷ [] }
+        requires { IsKey key.now }
         ensures value { MatchResult result (λ v. expected (front 61 key.now) (unread self.old) ≡ Ok v.now) (λ e. expected (front 61 key.now) (unread self.old) ≡ Err e) }
         ensures after { unread self.new ≡ tail (unread self.old) }
     {
@@ -24,7 +24,7 @@ impl<'a> Fields<'a> {
 
     // The number that the next field has behind that key.
     fn number<T, F: FnOnce(&[u8]) -> Option<T>>(&mut self, key: &[u8], read: F) -> Result<T, Cause>
-        requires key { key.now ≡ front 61 key.now ++ 61 ∷ [] }
+        requires key { IsKey key.now }
         requires callable { F.IsAlwaysCallable read }
         ensures value { MatchResult (expected (front 61 key.now) (unread self.old)) (λ v. (r : Option T) × FnOnceReturnsAt F.FnOnce read v r × (result ≡ ok_or r Cause.Value)) (λ e. result ≡ Err e) }
         ensures after { unread self.new ≡ tail (unread self.old) }

@@ -1,7 +1,8 @@
 // The fields of a line: a path word, then keywords, with one space between neighbours.
 ghost use Rattle.std.specs.Prelude.{◌≡◌, [], MatchOption};
+ghost use Rattle.std.specs.Iterator.{YieldsFirstRef, item_count};
 ghost use Rattle.paths.specs.Pieces.{front, later, pieces};
-ghost use Rattle.mtree.specs.Lexed.{unread, tail, NextField};
+ghost use Rattle.mtree.specs.Lexed.{unread};
 
 use paths::parts::front_len;
 
@@ -29,12 +30,16 @@ impl<'a> Fields<'a> {
         let (word, rest) = cut(line);
         (word, Fields { rest })
     }
+}
 
-    // The next field, and goes past it.
-    pub(crate) fn next(&mut self) -> Option<&'a [u8]>
-        ensures value { NextField (unread self.old) result }
-        ensures after { unread self.new ≡ tail (unread self.old) }
-    {
+impl<'a> Iterator for Fields<'a> {
+    type Item = &'a [u8];
+
+    ghost next_gives = { YieldsFirstRef unread };
+
+    ghost remaining = { item_count unread };
+
+    fn next(&mut self) -> Option<&'a [u8]> {
         let (field, rest) = cut(self.rest?);
         self.rest = rest;
         Some(field)
