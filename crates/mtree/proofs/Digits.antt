@@ -31,3 +31,6 @@ module _ (base n : ℕ) (ds : List ℕ) (i : ℕ) where
   pub numeral_end : length ds ≤ i → numeral_from base n (drop i ds) ≡ Some n
   unfolding numeral_from
   numeral_end h = at_drop_all (numeral_from base n) ds i h
+
+-- the steps of a loop over digits
+pub ruleset numeral_steps = (digits_fit, numeral_bad, numeral_end)

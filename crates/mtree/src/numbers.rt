@@ -16,6 +16,7 @@ fn digit_value(base: u64, digit: u8) -> Option<u64>
 }
 
 // The number that up to sixteen digits write.
+#[tactic(auto, using(crate::proofs::Digits::numeral_steps))]
 fn read_numeral(base: u64, digits: &[u8]) -> Option<u64>
     requires base { base ≤ 16 }
     requires few { length digits.now ≤ 16 }

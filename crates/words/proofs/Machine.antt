@@ -1,6 +1,7 @@
 -- What one byte of a word does to the bytes that it stands for. Assumes nothing.
 use Rattle.std.proofs.Common.{◌≡◌, ℕ, ◌+◌, ◌<◌, ◌≤◌, List, [], ◌∷◌, ◌++◌, length, get_or, take, drop, Some, None, Option, sym, refl, ap, ◌∙◌, append_assoc, append-nil}
 use Rattle.std.proofs.lemmas.List.{at_drop_more, at_drop_all, take_all, take-append-le}
+use Rattle.std.proofs.lemmas.Bool.{eqb-true, eqb-false}
 use Rattle.std.specs.Option.{option_map}
 use Rattle.words.specs.declared.escape.State.{State}
 use Rattle.words.specs.declared.escape.State.TheVariants.{Plain, Backslash, OneDigit, TwoDigits}
@@ -33,16 +34,25 @@ module _ (n : ℕ) (s : List ℕ) (t : State) (w : List ℕ) (i : ℕ) (lt : i <
   pub after_full : n ≤ length s → (b : ℕ) → step_of t (get_or w i 0) ≡ Out b → after n s t (drop i w) ≡ after n s Plain (drop (i + 1) w)
   after_full h b e = after_step (Out b) e ∙ no_room n s b h (undone Plain (drop (i + 1) w))
 
-pub after_end : (n : ℕ) (s : List ℕ) (t : State) (w : List ℕ) (i : ℕ) → length w ≤ i → after n s t (drop i w) ≡ option_map (λ l. take n (s ++ l)) (finished t)
+after_end : (n : ℕ) (s : List ℕ) (t : State) (w : List ℕ) (i : ℕ) → length w ≤ i → after n s t (drop i w) ≡ option_map (λ l. take n (s ++ l)) (finished t)
 unfolding undone
 after_end n s t w i h = at_drop_all (after n s t) w i h
 
 -- a word may end only outside an escape
-pub cut_short : (n : ℕ) (s : List ℕ) (t : State) → (t ≡ Plain → ⊥) → option_map (λ l. take n (s ++ l)) (finished t) ≡ None
+cut_short : (n : ℕ) (s : List ℕ) (t : State) → (t ≡ Plain → ⊥) → option_map (λ l. take n (s ++ l)) (finished t) ≡ None
 cut_short n s Plain p = absurd (p refl)
 cut_short n s Backslash p = refl
 cut_short n s (OneDigit k) p = refl
 cut_short n s (TwoDigits k) p = refl
 
-pub whole : (n : ℕ) (s : List ℕ) → length s ≤ n → option_map (λ l. take n (s ++ l)) (finished Plain) ≡ Some s
-whole n s h = ap (λ l. Some (take n l)) (append-nil s) ∙ ap Some (take_all n s h)
+module _ (n : ℕ) (s : List ℕ) (t : State) (w : List ℕ) (i : ℕ) (end : length w ≤ i) where
+  pub after_cut : (t ≡ Plain → ⊥) → after n s t (drop i w) ≡ None
+  after_cut p = after_end n s t w i end ∙ cut_short n s t p
+
+  pub after_whole : t ≡ Plain → length s ≤ n → after n s t (drop i w) ≡ Some s
+  after_whole p h =
+      after_end n s t w i end ∙ ap (λ t. option_map (λ l. take n (s ++ l)) (finished t)) p
+      ∙ ap (λ l. Some (take n l)) (append-nil s) ∙ ap Some (take_all n s h)
+
+-- the steps of the loop over a word
+pub ruleset machine_steps = (after_step, after_push, after_full, after_cut, after_whole, eqb-true, eqb-false)

@@ -42,6 +42,7 @@ fn take_byte(state: State, byte: u8) -> Step
 
 // The first 123 bytes that a word stands for. A path and the `./` before it need no more than 122:
 // the last shows that there are too many.
+#[tactic(auto, using(crate::proofs::Machine::machine_steps))]
 pub(crate) fn unescape(word: &[u8]) -> Option<ArrayVec<u8, 123>>
     ensures { option_map (λ v. v.items) result ≡ option_map (take 123) (unescaped word.now) }
 {
