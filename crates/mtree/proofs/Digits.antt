@@ -1,37 +1,23 @@
 -- What one more digit does to a number. Assumes nothing.
-use Rattle.std.proofs.Common.{◌≡◌, ℕ, suc, ◌+◌, ◌-◌, ◌*◌, ◌^◌, ◌<◌, ◌≤◌, Bool, true, false, cond, ◌&&◌, ltb, leb, List, length, get_or, drop, Some, None, refl, ap, ◌∙◌, mul-le-mul_right, mul-le-mul_left, pow-suc, add-one, arith}
+use Rattle.std.proofs.Common.{◌≡◌, ℕ, suc, ◌+◌, ◌*◌, ◌^◌, ◌<◌, ◌≤◌, List, length, get_or, drop, Some, None, ap, ◌∙◌, mul-le-mul_right, mul-le-mul_left, pow-suc, add-one, arith}
 use native.Mathlib.Nat.{pow-le-pow_right}
 use Rattle.std.proofs.lemmas.List.{at_drop_more, at_drop_all}
-use Rattle.std.proofs.lemmas.Bool.{ltb-true}
 use Rattle.words.specs.Steps.{and_then_some}
-use Rattle.mtree.specs.Numbers.{below, digit_value, numeral_from}
-
-below-is : (base e d : ℕ) → below base e ≡ Some d → d < base
-below-is base e d h = go (ltb e base) refl h where
-  go : (t : Bool) → ltb e base ≡ t → cond t (Some e) None ≡ Some d → d < base
-  go true f h = let same : e ≡ d = cc in omega (arith, ltb-true e base f)
-  go false f h = let z : ◌≡◌ {A = ℕ} 0 1 = cc in absurd (omega arith)
-
-pub digit-below : (base b d : ℕ) → digit_value base b ≡ Some d → d < base
-digit-below base b d h = go (leb 48 b && leb b 57) (leb 97 b && leb b 102) h where
-  go : (t u : Bool) → cond t (below base (b - 48)) (cond u (below base (b - 87)) None) ≡ Some d → d < base
-  go true u h = below-is base (b - 48) d h
-  go false true h = below-is base (b - 87) d h
-  go false false h = let z : ◌≡◌ {A = ℕ} 0 1 = cc in absurd (omega arith)
+use Rattle.mtree.specs.Numbers.{digit_value, numeral_from}
 
 -- one digit more is one power more
-pub digit-fits : (n base d i : ℕ) → n < 16 ^ i → base ≤ 16 → d < base → n * base + d < 16 ^ (i + 1)
+pub digit-fits : (n base d i : ℕ) → n < 16 ^ i → base ≤ 16 → d < 16 → n * base + d < 16 ^ (i + 1)
 digit-fits n base d i h b l =
     let step : 16 ^ (i + 1) ≡ 16 ^ i * 16 = ap (λ k. 16 ^ k) (add-one i) ∙ pow-suc 16 i in
     let wide : n * base ≤ n * 16 = mul-le-mul_left n b in
     let high : suc n * 16 ≤ 16 ^ i * 16 = mul-le-mul_right 16 h in
     omega arith
 
-pub digits_fit : (n i : ℕ) → n < 16 ^ (i + 1) → i < 16 → n < 2 ^ 64
-digits_fit n i h l =
-    let small : i + 1 ≤ 16 = omega arith in
-    let top : 16 ^ (i + 1) ≤ 16 ^ 16 = pow-le-pow_right (omega arith) small in
-    omega arith
+pub digits_fit : (n base d i : ℕ) → n < 16 ^ i → base ≤ 16 → d < 16 → i < 16 → n * base + d < 2 ^ 64
+digits_fit n base d i h b l k =
+    let last : i + 1 ≤ 16 = omega arith in
+    let small : 16 ^ (i + 1) ≤ 16 ^ 16 = pow-le-pow_right (omega arith) last in
+    omega (arith, digit-fits n base d i h b l)
 
 module _ (base n : ℕ) (ds : List ℕ) (i : ℕ) where
   pub numeral_more : i < length ds → (d : ℕ) → digit_value base (get_or ds i 0) ≡ Some d → numeral_from base n (drop i ds) ≡ numeral_from base (n * base + d) (drop (i + 1) ds)
@@ -45,3 +31,6 @@ module _ (base n : ℕ) (ds : List ℕ) (i : ℕ) where
   pub numeral_end : length ds ≤ i → numeral_from base n (drop i ds) ≡ Some n
   unfolding numeral_from
   numeral_end h = at_drop_all (numeral_from base n) ds i h
+
+-- the steps of a loop over digits
+pub ruleset numeral_steps = (digits_fit, numeral_bad, numeral_end)

@@ -1,5 +1,5 @@
 -- The keywords of a line. Assumes nothing.
-use Rattle.std.specs.Prelude.{ℕ, ◌+◌, cond, ◌&&◌, List, [], ◌∷◌, length, drop, Some, None, Ok, Err, Option, Result, nat_lt}
+use Rattle.std.specs.Prelude.{◌≡◌, ℕ, ◌+◌, cond, ◌&&◌, List, [], ◌∷◌, ◌++◌, length, drop, Some, None, Ok, Err, Option, Result, nat_lt}
 use Rattle.paths.specs.Names.{same}
 use Rattle.paths.specs.Pieces.{front}
 use Rattle.trees.specs.declared.entry.Entry.{Entry}
@@ -28,6 +28,10 @@ dir_word = 100 ∷ 105 ∷ 114 ∷ []
 
 abbrev pub file_word : List ℕ
 file_word = 102 ∷ 105 ∷ 108 ∷ 101 ∷ []
+
+-- a name with the `=` behind it
+abbrev pub IsKey : List ℕ → Type 0
+IsKey key = key ≡ front 61 key ++ 61 ∷ []
 
 -- the value of the next field, which has to be the keyword of that name
 abbrev pub expected : List ℕ → List (List ℕ) → Result (List ℕ) Cause

@@ -1,103 +1,61 @@
 // The entry that the keywords of a line give, judged from the left.
-ghost use Rattle.std.specs.Prelude.{◌≡◌, Ok, Err, MatchResult};
-ghost use Rattle.paths.specs.Names.{same};
-ghost use Rattle.mtree.specs.Lexed.{unread, tail, Ready};
-ghost use Rattle.mtree.specs.Numbers.{mode_of, size_of, content_of};
-ghost use Rattle.mtree.specs.Keywords.{mode_name, size_name, content_name, expected, number, no_more, dir_of, file_of, entry_of};
+ghost use Rattle.std.specs.Prelude.{◌≡◌, Option, Ok, Err, MatchResult};
+ghost use Rattle.paths.specs.Pieces.{front};
+ghost use Rattle.mtree.specs.Lexed.{unread, tail};
+ghost use Rattle.mtree.specs.Keywords.{IsKey, expected, no_more, dir_of, file_of, entry_of};
+ghost use Rattle.std.specs.Option.{ok_or};
+ghost use Rattle.std.specs.Fn.{FnOnceReturnsAt};
 
-use crate::lexer::{Lexer, Token};
+use crate::fields::Fields;
 use crate::numbers::{read_content, read_mode, read_size};
 use trees::entry::{DirMeta, Entry, FileMeta};
 use words::fault::Cause;
 
-fn is_same(a: &[u8], b: &[u8]) -> bool
-    ensures { result ≡ same a.now b.now }
-{
-    a == b
-}
-
-impl<'a> Lexer<'a> {
-    // The value of the next keyword, which has to have that name.
-    fn expect(&mut self, name: &[u8]) -> Result<&'a [u8], Cause>
-        requires { Ready self.old }
-        ensures value { MatchResult result (λ v. expected name.now (unread self.old) ≡ Ok v.now) (λ e. expected name.now (unread self.old) ≡ Err e) }
+impl<'a> Fields<'a> {
+    // The value of the next field, which has to begin with that key: a name and a `=`.
+    fn value(&mut self, key: &[u8]) -> Result<&'a [u8], Cause>
+        requires { IsKey key.now }
+        ensures value { MatchResult result (λ v. expected (front 61 key.now) (unread self.old) ≡ Ok v.now) (λ e. expected (front 61 key.now) (unread self.old) ≡ Err e) }
         ensures after { unread self.new ≡ tail (unread self.old) }
-        ensures ready { Ready self.new }
     {
-        let Token::Keyword(found, value) = self.token() else {
-            return Err(Cause::Keyword);
-        };
-        if !is_same(name, found.text) {
-            return Err(Cause::Keyword);
-        }
-        Ok(value.text)
+        let field = self.next().ok_or(Cause::Keyword)?;
+        field.strip_prefix(key).ok_or(Cause::Keyword)
     }
 
-    fn mode(&mut self) -> Result<u16, Cause>
-        requires { Ready self.old }
-        ensures value { result ≡ number mode_of mode_name (unread self.old) }
+    // The number that the next field has behind that key.
+    fn number<T, F: FnOnce(&[u8]) -> Option<T>>(&mut self, key: &[u8], read: F) -> Result<T, Cause>
+        requires key { IsKey key.now }
+        requires callable { F.IsAlwaysCallable read }
+        ensures value { MatchResult (expected (front 61 key.now) (unread self.old)) (λ v. (r : Option T) × FnOnceReturnsAt F.FnOnce read v r × (result ≡ ok_or r Cause.Value)) (λ e. result ≡ Err e) }
         ensures after { unread self.new ≡ tail (unread self.old) }
-        ensures ready { Ready self.new }
     {
-        let value = self.expect(b"mode")?;
-        match read_mode(value) {
-            Some(mode) => Ok(mode),
-            None => Err(Cause::Value),
-        }
-    }
-
-    fn size(&mut self) -> Result<u64, Cause>
-        requires { Ready self.old }
-        ensures value { result ≡ number size_of size_name (unread self.old) }
-        ensures after { unread self.new ≡ tail (unread self.old) }
-        ensures ready { Ready self.new }
-    {
-        let value = self.expect(b"size")?;
-        match read_size(value) {
-            Some(size) => Ok(size),
-            None => Err(Cause::Value),
-        }
-    }
-
-    fn content(&mut self) -> Result<u64, Cause>
-        requires { Ready self.old }
-        ensures value { result ≡ number content_of content_name (unread self.old) }
-        ensures after { unread self.new ≡ tail (unread self.old) }
-        ensures ready { Ready self.new }
-    {
-        let value = self.expect(b"content")?;
-        match read_content(value) {
-            Some(content) => Ok(content),
-            None => Err(Cause::Value),
-        }
+        let value = self.value(key)?;
+        read(value).ok_or(Cause::Value)
     }
 
     // The entry, if no field is left.
-    fn finish(&mut self, entry: Entry) -> Result<Entry, Cause>
-        requires { Ready self.old }
-        ensures { result ≡ no_more (unread self.old) entry }
+    fn finish(&self, entry: Entry) -> Result<Entry, Cause>
+        ensures { result ≡ no_more (unread self.now) entry }
     {
-        match self.token() {
-            Token::End(_) => Ok(entry),
+        match self.rest {
+            None => Ok(entry),
             _ => Err(Cause::Keyword),
         }
     }
 
     fn dir(&mut self) -> Result<Entry, Cause>
-        requires { Ready self.old }
         ensures { result ≡ dir_of (unread self.old) }
     {
-        let mode = self.mode()?;
+        let mode = self.number(b"mode=", read_mode)?;
         self.finish(Entry::Dir(DirMeta { mode }))
     }
 
     fn file(&mut self) -> Result<Entry, Cause>
-        requires { Ready self.old }
         ensures { result ≡ file_of (unread self.old) }
     {
-        let mode = self.mode()?;
-        let size = self.size()?;
-        let content = self.content()?;
+        let mode = self.number(b"mode=", read_mode)?;
+        let size = self.number(b"size=", read_size)?;
+        let content = self.number(b"content=", read_content)?;
         self.finish(Entry::File(FileMeta {
             mode,
             size,
@@ -107,16 +65,12 @@ impl<'a> Lexer<'a> {
 
     // The entry of the fields that are left.
     pub(crate) fn entry(&mut self) -> Result<Entry, Cause>
-        requires { Ready self.old }
         ensures { result ≡ entry_of (unread self.old) }
     {
-        let kind = self.expect(b"type")?;
-        if is_same(b"dir", kind) {
-            return self.dir();
+        match self.value(b"type=")? {
+            b"dir" => self.dir(),
+            b"file" => self.file(),
+            _ => Err(Cause::Value),
         }
-        if is_same(b"file", kind) {
-            return self.file();
-        }
-        Err(Cause::Value)
     }
 }

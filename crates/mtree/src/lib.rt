@@ -3,6 +3,6 @@
 #![tactic(auto)]
 
 mod entries;
-mod lexer;
+mod fields;
 pub mod line;
 mod numbers;

@@ -1,6 +1,5 @@
 -- The number of a cause, and how it is printed. Assumes nothing.
-use Rattle.std.specs.Prelude.{ℕ, List, Ok, Err, decimal, Result}
-use Rattle.paths.specs.declared.PathFault.{PathFault}
+use Rattle.std.specs.Prelude.{ℕ, List, decimal}
 use Rattle.paths.specs.Faults.{fields as path_fields}
 use Rattle.words.specs.declared.fault.Cause.{Cause}
 use Rattle.words.specs.declared.fault.Cause.TheVariants.{Header, Word, Path, Keyword, Value, Order, Parent, TooMany, OtherRows}
@@ -16,8 +15,3 @@ cause_fields Order = decimal 34
 cause_fields Parent = decimal 35
 cause_fields TooMany = decimal 36
 cause_fields OtherRows = decimal 37
-
--- how a number, or the fault of a path, is printed
-abbrev pub said : Result ℕ PathFault → List ℕ
-said (Ok n) = decimal n
-said (Err f) = path_fields f

@@ -1,7 +1,6 @@
 -- The path word of a line. Assumes nothing.
 use Rattle.std.specs.Prelude.{ℕ, cond, ◌&&◌, List, [], ◌∷◌, length, drop, Some, None, Ok, Err, Option, Result, nat_lt}
 use Rattle.paths.specs.declared.PathFault.{PathFault}
-use Rattle.paths.specs.declared.PathFault.TheVariants.{TooLong}
 use Rattle.paths.specs.Names.{judge, same, begins}
 use Rattle.words.specs.declared.fault.Cause.{Cause}
 use Rattle.words.specs.declared.fault.Cause.TheVariants.{Word, Path}
@@ -23,7 +22,3 @@ judged_word (Some s) = held (judge s)
 -- the path that a word names: the word is judged whole before its path is
 abbrev pub path_of : List ℕ → Result (List (List ℕ)) Cause
 path_of w = judged_word (and_then_some (unescaped w) undotted)
-
--- what is wrong with a word whose first bytes these are, and which is too long for any path
-abbrev pub long_fault : List ℕ → Cause
-long_fault s = cond (begins (46 ∷ 47 ∷ []) s) (Path TooLong) Word

@@ -1,8 +1,10 @@
 // The escape machine: undoes the escapes of a word, byte by byte.
-ghost use Rattle.std.specs.Prelude.{◌≡◌, ℕ, List, length, take, Some, None, MatchOption};
+ghost use Rattle.std.specs.Prelude.{◌≡◌, take};
+ghost use Rattle.std.specs.Option.{option_map};
 ghost use Rattle.words.specs.Escapes.{Sound, SoundStep, step_of, unescaped};
 
 use crate::printable::is_printable;
+use arrayvec::ArrayVec;
 
 // What has been read of an escape.
 #[derive(Clone, Copy)]
@@ -13,25 +15,12 @@ pub enum State {
     TwoDigits(u8),
 }
 
-// What a byte does in a state.
+// What a byte does in a state. `Bad` is no `None`: laws of `manifests` name the steps by these variants.
 #[derive(Clone, Copy)]
 pub enum Step {
     To(State),
     Out(u8),
     Bad,
-}
-
-fn plain_byte(byte: u8) -> Step
-    ensures value { result ≡ step_of State.Plain byte }
-    ensures sound { SoundStep result }
-{
-    if byte == b'\\' {
-        Step::To(State::Backslash)
-    } else if is_printable(byte) {
-        Step::Out(byte)
-    } else {
-        Step::Bad
-    }
 }
 
 fn take_byte(state: State, byte: u8) -> Step
@@ -40,7 +29,8 @@ fn take_byte(state: State, byte: u8) -> Step
     ensures sound { SoundStep result }
 {
     match (state, byte) {
-        (State::Plain, _) => plain_byte(byte),
+        (State::Plain, b'\\') => Step::To(State::Backslash),
+        (State::Plain, _) if is_printable(byte) => Step::Out(byte),
         (State::Backslash, b'0'..=b'3') => Step::To(State::OneDigit(byte - b'0')),
         (State::OneDigit(high), b'0'..=b'7') => Step::To(State::TwoDigits(
             high * 8 + (byte - b'0'),
@@ -50,29 +40,28 @@ fn take_byte(state: State, byte: u8) -> Step
     }
 }
 
-// How many bytes a word stands for; the first 122 of them are written to `out`. A path and the
-// `./` before it need no more.
-pub(crate) fn unescape(word: &[u8], out: &mut [u8]) -> Option<usize>
-    requires { length out.old ≡ 122 }
-    ensures { MatchOption result (unescaped word.now ≡ None) (λ n. (s : List ℕ) × (unescaped word.now ≡ Some s) × (n ≡ length s) × (take n out.new ≡ take 122 s)) }
+// The first 123 bytes that a word stands for. A path and the `./` before it need no more than 122:
+// the last shows that there are too many.
+#[tactic(auto, using(crate::proofs::Machine::machine_steps))]
+pub(crate) fn unescape(word: &[u8]) -> Option<ArrayVec<u8, 123>>
+    ensures { option_map (λ v. v.items) result ≡ option_map (take 123) (unescaped word.now) }
 {
     let mut state = State::Plain;
-    let mut len = 0;
+    let mut plain = ArrayVec::new();
     for byte in word {
-        match take_byte(state, *byte) {
-            Step::To(next) => state = next,
+        state = match take_byte(state, *byte) {
+            Step::To(next) => next,
             Step::Out(made) => {
-                if len < 122 {
-                    out[len] = made;
+                if !plain.is_full() {
+                    plain.push(made);
                 }
-                len += 1;
-                state = State::Plain;
+                State::Plain
             }
             Step::Bad => return None,
-        }
+        };
     }
     match state {
-        State::Plain => Some(len),
+        State::Plain => Some(plain),
         _ => None,
     }
 }

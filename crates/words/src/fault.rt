@@ -1,7 +1,7 @@
 // Why a manifest is refused.
 ghost use Rattle.std.specs.Prelude.{◌≡◌, Some};
 ghost use Rattle.words.specs.declared.fault.Cause.TheVariants.{Path as Faulty};
-ghost use Rattle.words.specs.Faults.{cause_fields, said};
+ghost use Rattle.words.specs.Faults.{cause_fields};
 
 use paths::PathFault;
 use std::fmt;
@@ -36,32 +36,22 @@ impl From<PathFault> for Cause {
     }
 }
 
-impl Cause {
-    // The number of a cause; a path's fault has its own.
-    fn number(self) -> Result<u8, PathFault>
-        ensures { said result ≡ cause_fields self }
-    {
-        match self {
-            Cause::Header => Ok(30),
-            Cause::Word => Ok(31),
-            Cause::Path(path) => Err(path),
-            Cause::Keyword => Ok(32),
-            Cause::Value => Ok(33),
-            Cause::Order => Ok(34),
-            Cause::Parent => Ok(35),
-            Cause::TooMany => Ok(36),
-            Cause::OtherRows => Ok(37),
-        }
-    }
-}
-
 impl fmt::Display for Cause {
     ghost output = { λ c. Some (cause_fields c) };
 
     fn fmt<W: fmt::Write>(&self, f: &mut fmt::Formatter<W>) -> fmt::Result {
-        match self.number() {
-            Ok(number) => write!(f, "{number}"),
-            Err(fault) => write!(f, "{fault}"),
-        }
+        let number: u8 = match *self {
+            Cause::Header => 30,
+            Cause::Word => 31,
+            // a path's fault has its own numbers
+            Cause::Path(path) => return write!(f, "{path}"),
+            Cause::Keyword => 32,
+            Cause::Value => 33,
+            Cause::Order => 34,
+            Cause::Parent => 35,
+            Cause::TooMany => 36,
+            Cause::OtherRows => 37,
+        };
+        write!(f, "{number}")
     }
 }

@@ -4,11 +4,11 @@
 
 ghost use Rattle.std.specs.Prelude.{◌≡◌, [], Some, None, Ok, Err, MatchOption, MatchResult};
 ghost use Rattle.paths.specs.Paths.{names};
-ghost use Rattle.words.specs.Words.{undotted, judged_word, long_fault, path_of};
+ghost use Rattle.words.specs.Words.{undotted, judged_word, path_of};
 
 use crate::escape::unescape;
 use crate::fault::Cause;
-use paths::{Path, PathFault};
+use paths::Path;
 
 mod escape;
 pub mod fault;
@@ -19,8 +19,8 @@ fn dotless(plain: &[u8]) -> Option<&[u8]>
     ensures { MatchOption result (undotted plain.now ≡ None) (λ s. undotted plain.now ≡ Some s.now) }
 {
     match plain {
-        [b'.'] => Some(&[]),
-        [b'.', b'/', _, ..] => Some(&plain[2..]),
+        b"." => Some(&[]),
+        [b'.', b'/', text @ ..] if !text.is_empty() => Some(text),
         _ => None,
     }
 }
@@ -29,32 +29,15 @@ fn dotless(plain: &[u8]) -> Option<&[u8]>
 fn read_plain(plain: &[u8]) -> Result<Path, Cause>
     ensures { MatchResult result (λ p. judged_word (undotted plain.now) ≡ Ok (names p)) (λ c. judged_word (undotted plain.now) ≡ Err c) }
 {
-    let Some(text) = dotless(plain) else {
-        return Err(Cause::Word);
-    };
+    let text = dotless(plain).ok_or(Cause::Word)?;
     Ok(Path::parse(text)?)
 }
 
-// What is wrong with a word that is too long for any path.
-fn long_fault(plain: &[u8]) -> Cause
-    ensures { result ≡ long_fault plain.now }
-{
-    match plain {
-        [b'.', b'/', ..] => Cause::Path(PathFault::TooLong),
-        _ => Cause::Word,
-    }
-}
-
 // The path of a word.
+#[tactic(auto, using(crate::proofs::Dotting::of_plain))]
 pub fn read_path(word: &[u8]) -> Result<Path, Cause>
     ensures { MatchResult result (λ p. path_of word.now ≡ Ok (names p)) (λ c. path_of word.now ≡ Err c) }
 {
-    let mut plain = [0; 122];
-    let Some(len) = unescape(word, &mut plain) else {
-        return Err(Cause::Word);
-    };
-    if len > 122 {
-        return Err(long_fault(&plain));
-    }
-    read_plain(&plain[0..len])
+    let plain = unescape(word).ok_or(Cause::Word)?;
+    read_plain(&plain)
 }

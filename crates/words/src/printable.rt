@@ -5,5 +5,5 @@ ghost use Rattle.words.specs.Printable.{printable as printable_of};
 pub fn is_printable(b: u8) -> bool
     ensures { result ≡ printable_of b }
 {
-    b >= 33 && b <= 126 && b != b'\\' && b != b'#'
+    b.is_ascii_graphic() && b != b'\\' && b != b'#'
 }

@@ -1,7 +1,12 @@
-use Rattle.std.proofs.Common.{◌≡◌, ℕ, ◌≤◌, List, length, take, drop}
+use Rattle.std.proofs.Common.{◌≡◌, ◌≤◌, length, take, drop}
+use Rattle.std.specs.Option.{option_map}
 use Rattle.words.specs.Escapes.{Sound, unescaped}
 use Rattle.words.proofs.Machine.{after}
 use Rattle.words.proofs.escape.unescape.Given as goal
 
 abbrev pub invariant-loop-byte : goal.invariant-loop-byte
-invariant-loop-byte l = Sound l.state × (l.len ≤ l.byte-index) × ((s : List ℕ) × (unescaped l.word ≡ after s l.state (drop l.byte-index l.word)) × (l.len ≡ length s) × (take l.len l.out ≡ take 122 s))
+invariant-loop-byte l = record {
+  sound : Sound l.state;
+  fits : length l.plain.items ≤ 123;
+  same : option_map (take 123) (unescaped l.word) ≡ after 123 l.plain.items l.state (drop l.byte-index l.word);
+}
