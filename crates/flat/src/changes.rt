@@ -18,21 +18,11 @@ use trees::fault::Fault;
 use trees::store::Store;
 
 impl Flat {
-    // How many more rows there may be.
-    fn rows_left(&self) -> usize
-        ensures { result ≡ room_of (listed self.now.rows) }
-    {
-        256 - self.rows.as_rows().len()
-    }
-
     // One row, where there is none yet.
     fn need_at(&self, path: &Path) -> usize
         ensures { result ≡ need_at (listed self.now.rows) (names path.now) }
     {
-        match self.rows.find(path) {
-            Some(_) => 0,
-            None => 1,
-        }
+        usize::from(self.rows.find(path).is_none())
     }
 
     // Puts an entry at a path, in place of what is there.
@@ -41,13 +31,12 @@ impl Flat {
         requires fits { need_at (listed self.old.rows) (names path.now) ≤ room_of (listed self.old.rows) }
         ensures { listed self.new.rows ≡ set_at (listed self.old.rows) (names path.now) (Some entry) }
     {
-        if self.rows.replace(path, entry) {
-            return;
+        if !self.rows.replace(path, entry) {
+            self.rows.insert(&[Row {
+                path: *path,
+                value: entry,
+            }]);
         }
-        self.rows.insert(&[Row {
-            path: *path,
-            value: entry,
-        }]);
     }
 
     // Takes out the entry at a path with nothing below it.
@@ -78,8 +67,9 @@ impl Editable for Flat {
 
     ghost few = { λ t p. Prim.grind arith };
 
+    // How many more rows there may be.
     fn room(&self) -> usize {
-        self.rows_left()
+        256 - self.rows.as_rows().len()
     }
 
     fn need(&self, path: &[u8]) -> Result<usize, Fault> {
@@ -89,7 +79,7 @@ impl Editable for Flat {
 
     fn edit(&mut self, path: &[u8], action: Action) -> Result<(), Fault> {
         let path = Path::parse(path)?;
-        check(self, &path, action, self.rows_left(), self.need_at(&path))?;
+        check(self, &path, action, self.room(), self.need_at(&path))?;
         self.apply(&path, action);
         Ok(())
     }

@@ -24,18 +24,18 @@ module _ (old new : List Row) (p : Names) (v : Entry) (t : is_tree old ≡ true)
       let fits = a ∙ ap (splices 256 ((p, v) ∷ [])) same ∙ one_splices p v old up (sym h) 256 room in
       e ∙ cond-true r (spliced ((p, v) ∷ []) mid) mid fits ∙ ap (spliced ((p, v) ∷ [])) same ∙ sym (set_spliced p v old up (sym h))
 
+pub invariant_of-self-else-not-replace : goal.invariant_of-self-else-not-replace
+invariant_of-self-else-not-replace c =
+    let made = over (listed c.args.self.now.rows) (listed c.replace.new.self) (names c.args.path.now) c.args.entry c.args.self.now.built c.if-not-replace.ensures.answer c.replace.ensures.rows in
+    record { built = subst (λ rs. is_tree rs ≡ true) (sym made) c.requires.grows }
+
+pub returns-else-not-replace : goal.returns-else-not-replace
+returns-else-not-replace c = over (listed c.args.self.now.rows) (listed c.replace.new.self) (names c.args.path.now) c.args.entry c.args.self.now.built c.if-not-replace.ensures.answer c.replace.ensures.rows
+
 pub invariant_of-self : goal.invariant_of-self
 invariant_of-self c =
-    let made = over (listed c.args.self.now.rows) (listed c.replace.new.self) (names c.args.path.now) c.args.entry c.args.self.now.built c.if-replace.ensures.answer c.replace.ensures.rows in
+    let made = beside (listed c.args.self.now.rows) (listed c.insert.new.self) (names c.args.path.now) c.args.entry c.args.self.now.built c.if-not-replace.ensures.answer c.requires.fits (listed c.replace.new.self) c.replace.ensures.rows c.insert.result c.insert.ensures.answer c.insert.ensures.rows in
     record { built = subst (λ rs. is_tree rs ≡ true) (sym made) c.requires.grows }
 
-pub returns-then-replace : goal.returns-then-replace
-returns-then-replace c = over (listed c.args.self.now.rows) (listed c.replace.new.self) (names c.args.path.now) c.args.entry c.args.self.now.built c.if-replace.ensures.answer c.replace.ensures.rows
-
-pub invariant_of-self-2 : goal.invariant_of-self-2
-invariant_of-self-2 c =
-    let made = beside (listed c.args.self.now.rows) (listed c.insert.new.self) (names c.args.path.now) c.args.entry c.args.self.now.built c.if-replace.ensures.answer c.requires.fits (listed c.replace.new.self) c.replace.ensures.rows c.insert.result c.insert.ensures.answer c.insert.ensures.rows in
-    record { built = subst (λ rs. is_tree rs ≡ true) (sym made) c.requires.grows }
-
-pub returns : goal.returns
-returns c = beside (listed c.args.self.now.rows) (listed c.insert.new.self) (names c.args.path.now) c.args.entry c.args.self.now.built c.if-replace.ensures.answer c.requires.fits (listed c.replace.new.self) c.replace.ensures.rows c.insert.result c.insert.ensures.answer c.insert.ensures.rows
+pub returns-then-not-replace : goal.returns-then-not-replace
+returns-then-not-replace c = beside (listed c.args.self.now.rows) (listed c.insert.new.self) (names c.args.path.now) c.args.entry c.args.self.now.built c.if-not-replace.ensures.answer c.requires.fits (listed c.replace.new.self) c.replace.ensures.rows c.insert.result c.insert.ensures.answer c.insert.ensures.rows

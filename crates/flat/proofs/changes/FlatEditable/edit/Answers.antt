@@ -40,7 +40,7 @@ returns-in_err-check c =
     let a = c.args.action in
     let p = names c.in_ok-path.path in
     let e = err_from_is_err_and c.from_residual-in_err-check.result c.from_residual-in_err-check.ensures.1 in
-    let told = sym (asked old c.rows_left.result c.need_at.result p a c.rows_left.ensures c.need_at.ensures) ∙ answered-some (refused_at old c.rows_left.result c.need_at.result p a) c.in_err-check.field-0.0 c.in_err-check.ensures in
+    let told = sym (asked old c.room.result c.need_at.result p a c.room.ensures c.need_at.ensures) ∙ answered-some (refused_at old c.room.result c.need_at.result p a) c.in_err-check.field-0.0 c.in_err-check.ensures in
     refused old s a c.from_residual-in_err-check.result e.0 e.1 (good-refusal old (room_of old) (need_at old) s a p c.in_ok-path.ensures.0 ∙ (told ∙ ap Some (sym e.2)))
 
 pub apply-requires : goal.apply-requires
@@ -48,8 +48,8 @@ apply-requires c =
     let old = listed c.args.self.now.rows in
     let a = c.args.action in
     let p = names c.in_ok-path.path in
-    sym (asked old c.rows_left.result c.need_at.result p a c.rows_left.ensures c.need_at.ensures)
-    ∙ answered-none (refused_at old c.rows_left.result c.need_at.result p a) c.in_ok-check.field-0 c.in_ok-check.ensures
+    sym (asked old c.room.result c.need_at.result p a c.room.ensures c.need_at.ensures)
+    ∙ answered-none (refused_at old c.room.result c.need_at.result p a) c.in_ok-check.field-0 c.in_ok-check.ensures
 
 granted : (old new : List Row) (s : List ℕ) (x : Path) (a : Action) → is_tree old ≡ true → judge s ≡ Ok (names x) → refused_at old (room_of old) (need_at old (names x)) (names x) a ≡ None → new ≡ edited old (names x) a → FlatOutcome old new s a (Ok tt)
 granted old new s x a t j h e =
@@ -63,5 +63,5 @@ returns c =
     let old = listed c.args.self.now.rows in
     let a = c.args.action in
     let x = c.in_ok-path.path in
-    let none = sym (asked old c.rows_left.result c.need_at.result (names x) a c.rows_left.ensures c.need_at.ensures) ∙ answered-none (refused_at old c.rows_left.result c.need_at.result (names x) a) c.in_ok-check.field-0 c.in_ok-check.ensures in
+    let none = sym (asked old c.room.result c.need_at.result (names x) a c.room.ensures c.need_at.ensures) ∙ answered-none (refused_at old c.room.result c.need_at.result (names x) a) c.in_ok-check.field-0 c.in_ok-check.ensures in
     granted old (listed c.apply.new.self.rows) c.args.path.now x a c.args.self.now.built c.in_ok-path.ensures.0 none c.apply.ensures
