@@ -2,7 +2,8 @@
 use Rattle.std.proofs.Common.{◌≡◌, ℕ, zero, suc, ◌+◌, ◌-◌, ◌*◌, ◌/◌, ◌%◌, ◌<◌, ◌≤◌, Bool, true, false, cond, nat_lt, List, [], ◌∷◌, ◌++◌, length, get_or, take, sym, refl, ap, ◌∙◌, append_assoc, append-nil, arith}
 use Rattle.std.proofs.lemmas.Bool.{cond-false}
 use Rattle.std.proofs.lemmas.Bool.Decides.{nat_tests}
-use Rattle.std.proofs.lemmas.List.{take_more, length-append}
+use Rattle.std.proofs.lemmas.List.{take_more, length-append, length-take-le}
+use Rattle.std.proofs.lemmas.Str.{encode_ascii}
 use Rattle.words.specs.Printable.{printable}
 use Rattle.listing.specs.Lines.{escape, escaped, dotted, digit, digits}
 
@@ -69,3 +70,7 @@ escape-octal b h f =
     cond-false (printable b) (b ∷ []) (92 ∷ (48 + b / 64) ∷ (48 + b / 8 % 8) ∷ (48 + b % 8) ∷ []) f ∙ (λ i. 92 ∷ high i ∷ sym (digit-low (b / 8 % 8) (omega arith)) i ∷ sym (digit-low (b % 8) (omega arith)) i ∷ []) where
       high : 48 + b / 64 ≡ digit (b / 8 / 8 % 8)
       high = let e : b / 8 / 8 % 8 ≡ b / 64 = omega arith in sym (ap digit e ∙ digit-low (b / 64) (omega arith))
+
+-- what the pushes need of lengths
+pub ruleset digit_lengths = (length-append, length-digits)
+pub ruleset text_lengths = (length-append, length-escaped, length-dotted, length-take-le, encode_ascii)

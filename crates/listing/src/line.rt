@@ -41,6 +41,7 @@ fn push_byte(line: &mut Line, b: u8)
 }
 
 // A path, after a dot.
+#[tactic(auto, using(crate::proofs::Texts::text_lengths))]
 fn push_path(line: &mut Line, path: &[u8])
     requires { length line.old.bytes + 4 * length path.now + 2 ≤ 640 }
     ensures { line.new.bytes ≡ line.old.bytes ++ dotted path.now }
@@ -54,6 +55,7 @@ fn push_path(line: &mut Line, path: &[u8])
     }
 }
 
+#[tactic(auto, using(crate::proofs::Texts::digit_lengths))]
 fn push_keywords(line: &mut Line, entry: Entry)
     requires { length line.old.bytes + 72 ≤ 640 }
     ensures text { line.new.bytes ≡ line.old.bytes ++ keywords entry }
@@ -76,6 +78,7 @@ fn push_keywords(line: &mut Line, entry: Entry)
 }
 
 // The line of an entry.
+#[tactic(auto, using(crate::proofs::Texts::text_lengths))]
 pub(crate) fn line_of(path: &Path, entry: Entry) -> Line
     ensures { result.bytes ≡ line (names path.now) entry }
 {
