@@ -4,6 +4,7 @@ use Rattle.std.proofs.lemmas.Bool.{cond-false}
 use Rattle.std.proofs.lemmas.Bool.Decides.{nat_tests}
 use Rattle.std.proofs.lemmas.List.{take_more, length-append, length-take-le}
 use Rattle.std.proofs.lemmas.Str.{encode_ascii}
+use Rattle.paths.proofs.Joins.{join_split}
 use Rattle.words.specs.Printable.{printable}
 use Rattle.listing.specs.Lines.{escape, escaped, dotted, digit, digits}
 
@@ -74,3 +75,5 @@ escape-octal b h f =
 -- what the pushes need of lengths
 pub ruleset digit_lengths = (length-append, length-digits)
 pub ruleset text_lengths = (length-append, length-escaped, length-dotted, length-take-le, encode_ascii)
+
+pub ruleset pieces = (text_lengths, append_assoc, escaped_more, escape-octal, join_split)

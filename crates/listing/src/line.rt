@@ -28,6 +28,7 @@ fn push_digits(line: &mut Line, base: u64, count: usize, n: u64)
 }
 
 // A byte, escaped if need be.
+#[tactic(auto, using(crate::proofs::Texts::pieces))]
 fn push_byte(line: &mut Line, b: u8)
     requires { length line.old.bytes + 4 ≤ 640 }
     ensures { line.new.bytes ≡ line.old.bytes ++ escape b }
@@ -41,7 +42,7 @@ fn push_byte(line: &mut Line, b: u8)
 }
 
 // A path, after a dot.
-#[tactic(auto, using(crate::proofs::Texts::text_lengths))]
+#[tactic(auto, using(crate::proofs::Texts::pieces))]
 fn push_path(line: &mut Line, path: &[u8])
     requires { length line.old.bytes + 4 * length path.now + 2 ≤ 640 }
     ensures { line.new.bytes ≡ line.old.bytes ++ dotted path.now }
@@ -78,7 +79,7 @@ fn push_keywords(line: &mut Line, entry: Entry)
 }
 
 // The line of an entry.
-#[tactic(auto, using(crate::proofs::Texts::text_lengths))]
+#[tactic(auto, using(crate::proofs::Texts::pieces))]
 pub(crate) fn line_of(path: &Path, entry: Entry) -> Line
     ensures { result.bytes ≡ line (names path.now) entry }
 {
