@@ -47,15 +47,6 @@ unfolding digits
 length-digits b zero n = refl
 length-digits b (suc k) n = omega (arith, length-append (digits b k (n / b)) (digit (n % b) ∷ []), length-digits b k (n / b))
 
--- one more digit, and one more byte
-pub one_digit : (old line new : List ℕ) (b k n d : ℕ) → 0 < k → line ≡ old ++ digits b (k - 1) (n / b) → d ≡ digit (n % b) → new ≡ line ++ d ∷ [] → new ≡ old ++ digits b k n
-one_digit old line new b k n d h l g w =
-    w ∙ (λ i. l i ++ g i ∷ []) ∙ append_assoc old (digits b (k - 1) (n / b)) (digit (n % b) ∷ []) ∙ ap (λ z. old ++ z) (sym (digits_more b k n h))
-
-pub one_byte : (old line new s : List ℕ) (i : ℕ) → i < length s → line ≡ old ++ escaped (take i s) → new ≡ line ++ escape (get_or s i 0) → new ≡ old ++ escaped (take (i + 1) s)
-one_byte old line new s i h l w =
-    w ∙ ap (λ z. z ++ escape (get_or s i 0)) l ∙ append_assoc old (escaped (take i s)) (escape (get_or s i 0)) ∙ ap (λ z. old ++ z) (sym (escaped_more s i h))
-
 pub digit-ascii : (d : ℕ) → d < 16 → digit d < 128
 digit-ascii d h = go (nat_lt d 10) where
   go : (t : Bool) → cond t (48 + d) (87 + d) < 128
@@ -72,8 +63,5 @@ escape-octal b h f =
       high : 48 + b / 64 ≡ digit (b / 8 / 8 % 8)
       high = let e : b / 8 / 8 % 8 ≡ b / 64 = omega arith in sym (ap digit e ∙ digit-low (b / 64) (omega arith))
 
--- what the pushes need of lengths
-pub ruleset digit_lengths = (length-append, length-digits)
-pub ruleset text_lengths = (length-append, length-escaped, length-dotted, length-take-le, encode_ascii)
-
-pub ruleset pieces = (text_lengths, append_assoc, escaped_more, escape-octal, join_split)
+-- what the pieces of a line need
+pub ruleset pieces = (append_assoc, append-nil, length-append, length-take-le, encode_ascii, join_split, escaped_more, length-escaped, length-dotted, digits-none, digits_more, length-digits, digit-ascii, escape-octal)

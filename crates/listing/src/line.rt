@@ -1,5 +1,8 @@
 // One line of a listing, pushed piece by piece: `write!` is not used, since by its clauses any
 // print may fail, and a listing never does.
+
+#![tactic(auto, using(crate::proofs::Texts::pieces))]
+
 ghost use Rattle.std.specs.Prelude.{◌≡◌, ◌+◌, ◌*◌, ◌<◌, ◌≤◌, ◌++◌, length};
 ghost use Rattle.paths.specs.Paths.{names};
 ghost use Rattle.listing.specs.Lines.{escape, escaped, dotted, digits, keywords, line};
@@ -28,7 +31,6 @@ fn push_digits(line: &mut Line, base: u64, count: usize, n: u64)
 }
 
 // A byte, escaped if need be.
-#[tactic(auto, using(crate::proofs::Texts::pieces))]
 fn push_byte(line: &mut Line, b: u8)
     requires { length line.old.bytes + 4 ≤ 640 }
     ensures { line.new.bytes ≡ line.old.bytes ++ escape b }
@@ -42,7 +44,6 @@ fn push_byte(line: &mut Line, b: u8)
 }
 
 // A path, after a dot.
-#[tactic(auto, using(crate::proofs::Texts::pieces))]
 fn push_path(line: &mut Line, path: &[u8])
     requires { length line.old.bytes + 4 * length path.now + 2 ≤ 640 }
     ensures { line.new.bytes ≡ line.old.bytes ++ dotted path.now }
@@ -56,7 +57,6 @@ fn push_path(line: &mut Line, path: &[u8])
     }
 }
 
-#[tactic(auto, using(crate::proofs::Texts::digit_lengths))]
 fn push_keywords(line: &mut Line, entry: Entry)
     requires { length line.old.bytes + 72 ≤ 640 }
     ensures text { line.new.bytes ≡ line.old.bytes ++ keywords entry }
@@ -79,7 +79,6 @@ fn push_keywords(line: &mut Line, entry: Entry)
 }
 
 // The line of an entry.
-#[tactic(auto, using(crate::proofs::Texts::pieces))]
 pub(crate) fn line_of(path: &Path, entry: Entry) -> Line
     ensures { result.bytes ≡ line (names path.now) entry }
 {
