@@ -65,9 +65,9 @@ from_row (r ∷ rs) a p e i =
 
 -- ---- the lines that are left
 
-pub lines-concat : (rs : List Row) → concat (texts rs) ≡ lines rs
-lines-concat [] = refl
-lines-concat (r ∷ rs) = ap (λ z. line r.0 r.1 ++ z) (lines-concat rs)
+pub all_told : (rs : List Row) → concat (texts rs) ≡ lines rs
+all_told [] = refl
+all_told (r ∷ rs) = ap (λ z. line r.0 r.1 ++ z) (all_told rs)
 
 from-none : (p : Names) (rs : List Row) → at rs p ≡ None → from p rs ≡ []
 from-none p [] h = refl

@@ -17,6 +17,7 @@ use trees::tree::Tree;
 const HEADER: &[u8] = b"#mtree\n";
 
 // The length of the listing, where there is room for it.
+#[tactic(auto, using(crate::proofs::Rest::all_told))]
 fn measure<T: Tree>(tree: &T, room: usize) -> Option<usize>
     ensures { MatchOption result (room < length (listing (T.Tree.entries tree.now).rows)) (λ n. (n ≡ length (listing (T.Tree.entries tree.now).rows)) × (n ≤ room)) }
 {
@@ -28,6 +29,7 @@ fn measure<T: Tree>(tree: &T, room: usize) -> Option<usize>
 }
 
 // Writes the listing, for which there is room.
+#[tactic(auto, using(crate::proofs::Written::room_for))]
 fn write<T: Tree>(tree: &T, buffer: &mut [u8])
     requires { length (listing (T.Tree.entries tree.now).rows) ≤ length buffer.old }
     ensures { buffer.new ≡ listing (T.Tree.entries tree.now).rows ++ drop (length (listing (T.Tree.entries tree.now).rows)) buffer.old }

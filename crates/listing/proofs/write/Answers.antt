@@ -2,7 +2,7 @@ use Rattle.std.proofs.Common.{◌∙◌, length, ap, arith}
 use Rattle.std.specs.List.{concat}
 use Rattle.listing.specs.Lines.{lines}
 use Rattle.listing.specs.Walks.{left}
-use Rattle.listing.proofs.Rest.{lines-concat}
+use Rattle.listing.proofs.Rest.{all_told}
 use Rattle.listing.proofs.Written.{room_for, more, done, begun}
 use Rattle.listing.proofs.write.Goals as goal
 
@@ -11,15 +11,7 @@ loop-line-init g c =
     let en = g.T.Tree.entries in
     let same = c.into_iter-line-iterator.ensures.into_iter_gives in
     begun c.copy_from_slice.new.self (lines (en c.args.tree.now).rows) c.args.buffer.now _ c.copy_from_slice.ensures.after
-    (ap (λ s. concat (left (en s.tree.now) s.at)) same ∙ ap concat c.of-line-items.ensures ∙ lines-concat (en c.args.tree.now).rows)
-
-pub overflow_add-end : goal.overflow_add-end
-overflow_add-end g c =
-    omega (arith, room_for _ _ _ _ _ c.loop-line.invariant _ _ c.in-Some.ensures.steps, c.len-end.ensures.value, c.requires)
-
-pub slice_bounds-copy_from_slice-end-in-loop-line : goal.slice_bounds-copy_from_slice-end-in-loop-line
-slice_bounds-copy_from_slice-end-in-loop-line g c =
-    omega (arith, room_for _ _ _ _ _ c.loop-line.invariant _ _ c.in-Some.ensures.steps, c.len-end.ensures.value, c.requires)
+    (ap (λ s. concat (left (en s.tree.now) s.at)) same ∙ ap concat c.of-line-items.ensures ∙ all_told (en c.args.tree.now).rows)
 
 pub loop-line-preserved : goal.loop-line-preserved
 loop-line-preserved g c =
