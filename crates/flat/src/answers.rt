@@ -34,6 +34,7 @@ impl Store for Flat {
         self.rows.find(path).copied()
     }
 
+    #[tactic(auto, using(crate::proofs::Steps::parents))]
     fn child_after(&self, path: &Path, after: &[u8]) -> Option<Path> {
         self.rows.sorted().child_after(path, after)
     }

@@ -26,6 +26,7 @@ impl Flat {
     }
 
     // Puts an entry at a path, in place of what is there.
+    #[tactic(auto, using(crate::proofs::Steps::setting))]
     fn set(&mut self, path: &Path, entry: Entry)
         requires grows { is_tree (set_at (listed self.old.rows) (names path.now) (Some entry)) ≡ true }
         requires fits { need_at (listed self.old.rows) (names path.now) ≤ room_of (listed self.old.rows) }
@@ -40,6 +41,7 @@ impl Flat {
     }
 
     // Takes out the entry at a path with nothing below it.
+    #[tactic(auto, using(crate::proofs::Steps::taken))]
     fn take_out(&mut self, path: &Path)
         requires grows { is_tree (set_at (listed self.old.rows) (names path.now) None) ≡ true }
         requires bare { has_child (listed self.old.rows) (names path.now) ≡ false }
