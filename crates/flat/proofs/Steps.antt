@@ -1,15 +1,18 @@
 -- What the changes of a flat tree do to its rows. Assumes nothing.
-use Rattle.std.proofs.Common.{◌≡◌, ◌+◌, ◌≤◌, true, false, cond, List, [], ◌∷◌, Some, None, Option, sym, ap, ◌∙◌, subst}
-use Rattle.std.proofs.lemmas.Bool.{and_parts, cond-true}
+use Rattle.std.proofs.Common.{◌≡◌, ◌≤◌, true, false, cond, List, [], ◌∷◌, Some, None, sym, subst}
+use Rattle.std.proofs.lemmas.Bool.{and_parts}
 use Rattle.rows.specs.Maps.{Names, at, ascending, has, replaced, without, rooted}
 use Rattle.rows.specs.Builds.{set_at}
 use Rattle.rows.specs.Tables.{spliced, splices}
 use Rattle.trees.specs.declared.entry.Entry.{Entry}
-use Rattle.trees.specs.Entries.{Row, fine, closed}
+use Rattle.trees.specs.Entries.{Row, closed}
 use Rattle.trees.proofs.Closed.{closed-rooted}
 use Rattle.edits.specs.declared.action.Action.{Action}
-use Rattle.edits.specs.Edits.{has_child, refused_at, new_entry, edited}
-use Rattle.edits.proofs.Belows.{set_none}
+use Rattle.edits.specs.Edits.{has_child, refused_at, new_entry}
+use Rattle.paths.specs.declared.Path.{Path}
+use Rattle.paths.specs.Paths.{names}
+use Rattle.edits.proofs.Granted.{granted-room}
+use Rattle.edits.proofs.Belows.{set_none, path_fine}
 use Rattle.edits.proofs.Edited.{edited-closed, edited-is, emptied}
 use Rattle.flat.specs.Rooms.{is_tree, room_of, need_at}
 use Rattle.flat.proofs.Written.{set_replaced, replaced_absent, set_spliced, one_splices}
@@ -42,3 +45,20 @@ module _ (rs : List Row) (t : is_tree rs ≡ true) where
 
 -- what `set` needs
 pub ruleset setting = (over, absent, fits, beside)
+
+module _ (rs : List Row) (x : Path) (a : Action) (t : is_tree rs ≡ true) (h : refused_at rs (room_of rs) (need_at rs (names x)) (names x) a ≡ None) where
+  pub whole : is_tree (set_at rs (names x) (new_entry a (at rs (names x)))) ≡ true
+  whole =
+      let b = parts rs t in
+      subst (λ rs. is_tree rs ≡ true) (edited-is rs (names x) a) (edited-closed rs (room_of rs) (need_at rs (names x)) (names x) b.0 b.1 (path_fine x) a h)
+
+  pub enough : need_at rs (names x) ≤ room_of rs
+  enough = granted-room rs (room_of rs) (need_at rs (names x)) (names x) a h
+
+  pub bare : new_entry a (at rs (names x)) ≡ None → has_child rs (names x) ≡ false
+  bare e =
+      let b = parts rs t in
+      emptied rs (room_of rs) (need_at rs (names x)) (names x) b.0 b.1 (path_fine x) a h e
+
+-- what `apply` needs
+pub ruleset applying = (whole, enough, bare, edited-is)

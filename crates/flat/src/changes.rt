@@ -51,6 +51,7 @@ impl Flat {
     }
 
     // Makes a change that the checks have granted.
+    #[tactic(auto, using(crate::proofs::Steps::applying))]
     fn apply(&mut self, path: &Path, action: Action)
         requires { refused_at (listed self.old.rows) (room_of (listed self.old.rows)) (need_at (listed self.old.rows) (names path.now)) (names path.now) action ≡ None }
         ensures { listed self.new.rows ≡ edited (listed self.old.rows) (names path.now) action }
