@@ -16,6 +16,7 @@ pub(crate) fn following<T: Tree>(tree: &T, path: &Path) -> Option<Path>
     if let Some(child) = child_after(tree, path, &[]) {
         return Some(child);
     }
+    // A loop: by its clauses a chain from `iter::successors` has no end, and `find_map` asks for one.
     let mut here = *path;
     while let Some(parent) = here.parent() {
         if let Some(next) = child_after(tree, &parent, here.last_name()) {

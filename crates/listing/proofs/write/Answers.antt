@@ -1,17 +1,14 @@
 use Rattle.std.proofs.Common.{◌∙◌, length, ap, arith}
 use Rattle.std.specs.List.{concat}
 use Rattle.listing.specs.Lines.{lines}
-use Rattle.listing.specs.Walks.{left}
 use Rattle.listing.proofs.Rest.{all_told}
 use Rattle.listing.proofs.Written.{room_for, more, done, begun}
 use Rattle.listing.proofs.write.Goals as goal
 
 pub loop-line-init : goal.loop-line-init
 loop-line-init g c =
-    let en = g.T.Tree.entries in
-    let same = c.into_iter-line-iterator.ensures.into_iter_gives in
-    begun c.copy_from_slice.new.self (lines (en c.args.tree.now).rows) c.args.buffer.now _ c.copy_from_slice.ensures.after
-    (ap (λ s. concat (left (en s.tree.now) s.at)) same ∙ ap concat c.of-line-items.ensures ∙ all_told (en c.args.tree.now).rows)
+    let rows = (g.T.Tree.entries c.args.tree.now).rows in
+    begun c.copy_from_slice.new.self (lines rows) c.args.buffer.now _ c.copy_from_slice.ensures.after (ap concat (c.into_iter-line-iterator.ensures.into_iter_gives ∙ c.of-line-items.ensures) ∙ all_told rows)
 
 pub loop-line-preserved : goal.loop-line-preserved
 loop-line-preserved g c =
