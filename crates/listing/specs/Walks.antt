@@ -7,11 +7,6 @@ use Rattle.rows.specs.Maps.{Names, is_at}
 use Rattle.trees.specs.Entries.{Entries, Row}
 use Rattle.listing.specs.Lines.{line}
 
--- the path of the first row
-abbrev pub path_first : List Row → Option Names
-path_first [] = None
-path_first (r ∷ rs) = Some r.0
-
 -- the rows from p's on
 abbrev pub from : Names → List Row → List Row
 from p [] = []

@@ -9,6 +9,7 @@ use trees::asked::child_after;
 use trees::tree::Tree;
 
 // The first path after a present one.
+#[tactic(auto, using(crate::proofs::Steps::onward))]
 pub(crate) fn following<T: Tree>(tree: &T, path: &Path) -> Option<Path>
     requires { has (T.Tree.entries tree.now).rows (names path.now) ≡ true }
     ensures { option_map names result ≡ path_after (T.Tree.entries tree.now).rows (names path.now) }
