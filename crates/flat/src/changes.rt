@@ -7,7 +7,7 @@ ghost use Rattle.edits.specs.Edits.{has_child, refused_at, edited};
 ghost use Rattle.flat.specs.Rooms.{is_tree, room_of, need_at};
 ghost use Rattle.std.proofs.Common.{arith};
 
-use crate::Flat;
+use crate::{Flat, ROWS};
 use edits::action::Action;
 use edits::checks::{check, entry_after};
 use edits::editable::Editable;
@@ -72,7 +72,7 @@ impl Editable for Flat {
 
     // How many more rows there may be.
     fn room(&self) -> usize {
-        256 - self.rows.as_rows().len()
+        ROWS - self.rows.as_rows().len()
     }
 
     fn need(&self, path: &[u8]) -> Result<usize, Fault> {
