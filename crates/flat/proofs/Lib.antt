@@ -1,2 +1,3 @@
 pub mod Written
+pub mod Steps
 pub mod Spending

@@ -9,8 +9,7 @@ use rows::row::Row;
 use rows::table::Table;
 use trees::entry::{DirMeta, Entry};
 use trees::fault::Fault;
-use trees::store;
-use trees::store::Store;
+use trees::store::{self, Store};
 use trees::tree::Tree;
 
 impl Flat {
@@ -32,12 +31,10 @@ impl Store for Flat {
     ghost stored = { λ t. record { rows = listed t.rows; ok = t.built } };
 
     fn entry(&self, path: &Path) -> Option<Entry> {
-        match self.rows.find(path) {
-            Some(entry) => Some(*entry),
-            None => None,
-        }
+        self.rows.find(path).copied()
     }
 
+    #[tactic(auto, using(crate::proofs::Steps::parents))]
     fn child_after(&self, path: &Path, after: &[u8]) -> Option<Path> {
         self.rows.sorted().child_after(path, after)
     }

@@ -7,7 +7,7 @@ ghost use Rattle.edits.specs.Edits.{has_child, refused_at, edited};
 ghost use Rattle.flat.specs.Rooms.{is_tree, room_of, need_at};
 ghost use Rattle.std.proofs.Common.{arith};
 
-use crate::Flat;
+use crate::{Flat, ROWS};
 use edits::action::Action;
 use edits::checks::{check, entry_after};
 use edits::editable::Editable;
@@ -18,39 +18,30 @@ use trees::fault::Fault;
 use trees::store::Store;
 
 impl Flat {
-    // How many more rows there may be.
-    fn rows_left(&self) -> usize
-        ensures { result ≡ room_of (listed self.now.rows) }
-    {
-        256 - self.rows.as_rows().len()
-    }
-
     // One row, where there is none yet.
     fn need_at(&self, path: &Path) -> usize
         ensures { result ≡ need_at (listed self.now.rows) (names path.now) }
     {
-        match self.rows.find(path) {
-            Some(_) => 0,
-            None => 1,
-        }
+        usize::from(self.rows.find(path).is_none())
     }
 
     // Puts an entry at a path, in place of what is there.
+    #[tactic(auto, using(crate::proofs::Steps::setting))]
     fn set(&mut self, path: &Path, entry: Entry)
         requires grows { is_tree (set_at (listed self.old.rows) (names path.now) (Some entry)) ≡ true }
         requires fits { need_at (listed self.old.rows) (names path.now) ≤ room_of (listed self.old.rows) }
         ensures { listed self.new.rows ≡ set_at (listed self.old.rows) (names path.now) (Some entry) }
     {
-        if self.rows.replace(path, entry) {
-            return;
+        if !self.rows.replace(path, entry) {
+            self.rows.insert(&[Row {
+                path: *path,
+                value: entry,
+            }]);
         }
-        self.rows.insert(&[Row {
-            path: *path,
-            value: entry,
-        }]);
     }
 
     // Takes out the entry at a path with nothing below it.
+    #[tactic(auto, using(crate::proofs::Steps::taken))]
     fn take_out(&mut self, path: &Path)
         requires grows { is_tree (set_at (listed self.old.rows) (names path.now) None) ≡ true }
         requires bare { has_child (listed self.old.rows) (names path.now) ≡ false }
@@ -60,6 +51,7 @@ impl Flat {
     }
 
     // Makes a change that the checks have granted.
+    #[tactic(auto, using(crate::proofs::Steps::applying))]
     fn apply(&mut self, path: &Path, action: Action)
         requires { refused_at (listed self.old.rows) (room_of (listed self.old.rows)) (need_at (listed self.old.rows) (names path.now)) (names path.now) action ≡ None }
         ensures { listed self.new.rows ≡ edited (listed self.old.rows) (names path.now) action }
@@ -78,8 +70,9 @@ impl Editable for Flat {
 
     ghost few = { λ t p. Prim.grind arith };
 
+    // How many more rows there may be.
     fn room(&self) -> usize {
-        self.rows_left()
+        ROWS - self.rows.as_rows().len()
     }
 
     fn need(&self, path: &[u8]) -> Result<usize, Fault> {
@@ -89,7 +82,7 @@ impl Editable for Flat {
 
     fn edit(&mut self, path: &[u8], action: Action) -> Result<(), Fault> {
         let path = Path::parse(path)?;
-        check(self, &path, action, self.rows_left(), self.need_at(&path))?;
+        check(self, &path, action, self.room(), self.need_at(&path))?;
         self.apply(&path, action);
         Ok(())
     }

@@ -12,8 +12,10 @@ use trees::entry::Entry;
 pub mod answers;
 pub mod changes;
 
+const ROWS: usize = 256;
+
 #[derive(Drop)]
 pub struct Flat {
-    rows: Table<Entry, 256>,
+    rows: Table<Entry, ROWS>,
     ghost built: { is_tree (listed rows) ≡ true },
 }

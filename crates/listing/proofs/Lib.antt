@@ -1,9 +1,7 @@
 pub mod Next
 pub mod Child
-pub mod Looks
-pub mod Roots
 pub mod Steps
 pub mod Texts
 pub mod Rest
-pub mod Walks
-pub mod Turns
+pub mod Roots
+pub mod Written

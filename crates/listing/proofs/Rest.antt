@@ -1,21 +1,17 @@
 -- The rows that are left on a walk. Assumes nothing.
-use Rattle.std.proofs.Common.{◌≡◌, ℕ, Bool, true, false, cond, List, [], ◌∷◌, Some, None, Option, sym, refl, ap, ◌∙◌, subst, inl, ⊎_elim}
-use Rattle.std.proofs.lemmas.Bool.{cond-true, cond-false}
+use Rattle.std.proofs.Common.{◌≡◌, ℕ, Bool, true, false, cond, List, [], ◌∷◌, ◌++◌, is_some, Some, None, Option, sym, refl, ap, ◌∙◌, subst, inl, ⊎_elim}
+use Rattle.std.proofs.lemmas.Bool.{true≢false, and_parts, cond-true, cond-false}
+use Rattle.std.specs.List.{concat}
 use Rattle.std.specs.Option.{option_map}
+use Rattle.paths.specs.declared.Path.{Path}
+use Rattle.paths.specs.Paths.{names}
 use Rattle.trees.specs.declared.entry.Entry.{Entry}
-use Rattle.rows.specs.Maps.{Names, before, first, is_at, is_after, ascending, path_after}
-use Rattle.trees.specs.Entries.{Row}
+use Rattle.rows.specs.Maps.{Names, before, first, is_at, is_after, at, ascending, path_after}
+use Rattle.trees.specs.Entries.{Entries, Row, closed}
+use Rattle.listing.specs.Lines.{line, lines}
+use Rattle.listing.specs.Walks.{from, from_at, texts, left}
 use Rattle.rows.proofs.Orders.{same-is, is_same, not_before_self, not_before-same, before-trans}
-use Rattle.rows.proofs.Firsts.{In, first_some, head_least, tail-ascends}
-
--- the rows from p's on
-abbrev pub from : Names → List Row → List Row
-from p [] = []
-from p (r ∷ rs) = cond (is_at p r) (r ∷ rs) (from p rs)
-
-abbrev pub from_at : Option Names → List Row → List Row
-from_at None rs = []
-from_at (Some p) rs = from p rs
+use Rattle.rows.proofs.Firsts.{In, first_some, head_least, tail-ascends, at-holds}
 
 is_at-false : (x p : List (List ℕ)) (e : Entry) → before x p ≡ true → is_at p (x, e) ≡ false
 is_at-false x p e b = go (is_at p (x, e)) refl where
@@ -66,3 +62,25 @@ from_row (r ∷ rs) a p e i =
           let f : first (is_after p) (r ∷ rs) ≡ first (is_after p) rs = cond-false (is_after p r) (Some r) (first (is_after p) rs) (before-after-false p r b) in
           cond-false (is_at p r) (r ∷ rs) (from p rs) (is_at-false r.0 p r.1 b) ∙ h
           ∙ ap (λ z. (p, e) ∷ z) (past (first (is_after p) rs) refl ∙ sym (ap (λ o. from_at (option_map (λ x. x.0) o) (r ∷ rs)) f))
+
+-- ---- the lines that are left
+
+pub all_told : (rs : List Row) → concat (texts rs) ≡ lines rs
+all_told [] = refl
+all_told (r ∷ rs) = ap (λ z. line r.0 r.1 ++ z) (all_told rs)
+
+from-none : (p : Names) (rs : List Row) → at rs p ≡ None → from p rs ≡ []
+from-none p [] h = refl
+from-none p (r ∷ rs) h = go (is_at p r) h (from-none p rs) where
+  go : (t : Bool) → option_map (λ x. x.1) (cond t (Some r) (first (is_at p) rs)) ≡ None → (at rs p ≡ None → from p rs ≡ []) → cond t (r ∷ rs) (from p rs) ≡ []
+  go true h more = absurd (true≢false (ap is_some h))
+  go false h more = more h
+
+module _ (en : Entries) (o : Option Path) (p : Path) (is : o ≡ Some p) where
+  pub left-none : at en.rows (names p) ≡ None → left en o ≡ []
+  left-none h = ap (left en) is ∙ ap texts (from-none (names p) en.rows h)
+
+  pub left-some : (e : Entry) (next : Option Path) (l : List ℕ) → at en.rows (names p) ≡ Some e → option_map names next ≡ path_after en.rows (names p) → l ≡ line (names p) e → left en o ≡ l ∷ left en next
+  left-some e next l h n s =
+      let up = (and_parts (ascending en.rows) (closed en.rows en.rows) en.ok).0 in
+      ap (left en) is ∙ ap texts (from_row en.rows up (names p) e (at-holds en.rows (names p) e h)) ∙ (λ i. sym s i ∷ texts (from_at (sym n i) en.rows))

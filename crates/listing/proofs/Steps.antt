@@ -20,6 +20,14 @@ no_row : (o : Option Row) → None ≡ option_map (λ r. r.0) o → o ≡ None
 no_row None e = refl
 no_row (Some r) e = absurd (true≢false (sym (ap is_some e)))
 
+child_of : (q : List (List ℕ)) → 0 < length q → q ≡ parent q ++ last_name q ∷ []
+child_of [] h = absurd (omega arith)
+child_of (m ∷ q) h = as_child m q
+
+pub shorter : (up-q q : List (List ℕ)) → up-q ≡ parent q → 0 < length q → length up-q < length q
+shorter up-q q is more =
+    omega (arith, ap length is, ap length (child_of q more), length-append (parent q) (last_name q ∷ []))
+
 module _ (en : Entries) (p : List (List ℕ)) where
   asc : ascending en.rows ≡ true
   asc = (and_parts (ascending en.rows) (closed en.rows en.rows) en.ok).0
@@ -42,10 +50,6 @@ module _ (en : Entries) (p : List (List ℕ)) where
     clear = none-clear en.rows asc clo p p [] (stands-first en.rows asc clo p) (no_row (first (is_child p []) en.rows) e);
   }
 
-  child_of : (q : List (List ℕ)) → 0 < length q → q ≡ parent q ++ last_name q ∷ []
-  child_of [] h = absurd (omega arith)
-  child_of (m ∷ q) h = as_child m q
-
   pub at_root : Left en p [] → None ≡ path_after en.rows p
   at_root l = sym (ap (option_map (λ r. r.0)) (clear_none en.rows asc clo p l.clear))
 
@@ -56,9 +60,6 @@ module _ (en : Entries) (p : List (List ℕ)) where
     module _ (more : 0 < length q) where
       whole : q ≡ up-q ++ last_name q ∷ []
       whole = child_of q more ∙ ap (λ z. z ++ last_name q ∷ []) (sym is)
-
-      pub shorter : length up-q < length q
-      shorter = omega (arith, ap length whole, length-append up-q (last_name q ∷ []))
 
       stands : Stands en.rows asc clo p up-q (last_name q)
       stands = stands_up en.rows asc clo p up-q (last_name q) (subst (λ z. Under z p) whole l.under) (subst (Clear en.rows asc clo p) whole l.clear)
@@ -72,3 +73,6 @@ module _ (en : Entries) (p : List (List ℕ)) where
         there = step_there;
         clear = none-clear en.rows asc clo p up-q (last_name q) stands (no_row (first (is_child up-q (last_name q)) en.rows) e);
       }
+
+-- what `following` needs
+pub ruleset onward = (start_some, start_none, step_some, shorter, at_root)

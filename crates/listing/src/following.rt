@@ -9,6 +9,7 @@ use trees::asked::child_after;
 use trees::tree::Tree;
 
 // The first path after a present one.
+#[tactic(auto, using(crate::proofs::Steps::onward))]
 pub(crate) fn following<T: Tree>(tree: &T, path: &Path) -> Option<Path>
     requires { has (T.Tree.entries tree.now).rows (names path.now) ≡ true }
     ensures { option_map names result ≡ path_after (T.Tree.entries tree.now).rows (names path.now) }
@@ -16,6 +17,7 @@ pub(crate) fn following<T: Tree>(tree: &T, path: &Path) -> Option<Path>
     if let Some(child) = child_after(tree, path, &[]) {
         return Some(child);
     }
+    // A loop: by its clauses a chain from `iter::successors` has no end, and `find_map` asks for one.
     let mut here = *path;
     while let Some(parent) = here.parent() {
         if let Some(next) = child_after(tree, &parent, here.last_name()) {

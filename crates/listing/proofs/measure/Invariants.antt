@@ -1,12 +1,7 @@
-use Rattle.std.proofs.Common.{◌≤◌, length}
-use Rattle.std.specs.Option.{option_map}
-use Rattle.paths.specs.Paths.{names}
-use Rattle.listing.proofs.Rest.{from_at}
-use Rattle.listing.proofs.Walks.{Walked}
+use Rattle.std.proofs.Common.{◌≡◌, ◌+◌, length}
+use Rattle.std.specs.List.{concat}
+use Rattle.listing.specs.Lines.{listing}
 use Rattle.listing.proofs.measure.Given as goal
 
-abbrev pub invariant-loop-at : goal.invariant-loop-at
-invariant-loop-at g l = Walked (g.T.Tree.entries l.tree).rows (option_map names l.at) l.n × (l.n ≤ l.room)
-
-abbrev pub decreases-loop-at : goal.decreases-loop-at
-decreases-loop-at g l = length (from_at (option_map names l.at) (g.T.Tree.entries l.tree).rows)
+abbrev pub invariant-loop-line : goal.invariant-loop-line
+invariant-loop-line g l = l.left + length (listing (g.T.Tree.entries l.tree).rows) ≡ l.room + length (concat l.line-iterator)

@@ -1,0 +1,64 @@
+-- What the changes of a flat tree do to its rows. Assumes nothing.
+use Rattle.std.proofs.Common.{◌≡◌, ◌≤◌, true, false, cond, List, [], ◌∷◌, Some, None, sym, subst}
+use Rattle.std.proofs.lemmas.Bool.{and_parts}
+use Rattle.rows.specs.Maps.{Names, at, ascending, has, replaced, without, rooted}
+use Rattle.rows.specs.Builds.{set_at}
+use Rattle.rows.specs.Tables.{spliced, splices}
+use Rattle.trees.specs.declared.entry.Entry.{Entry}
+use Rattle.trees.specs.Entries.{Row, closed}
+use Rattle.trees.proofs.Closed.{closed-rooted}
+use Rattle.edits.specs.declared.action.Action.{Action}
+use Rattle.edits.specs.Edits.{has_child, refused_at, new_entry}
+use Rattle.paths.specs.declared.Path.{Path}
+use Rattle.paths.specs.Paths.{names}
+use Rattle.edits.proofs.Granted.{granted-room}
+use Rattle.edits.proofs.Belows.{set_none, path_fine}
+use Rattle.edits.proofs.Edited.{edited-closed, edited-is, emptied}
+use Rattle.flat.specs.Rooms.{is_tree, room_of, need_at}
+use Rattle.flat.proofs.Written.{set_replaced, replaced_absent, set_spliced, one_splices}
+
+module _ (rs : List Row) (t : is_tree rs ≡ true) where
+  parts : (ascending rs ≡ true) × (closed rs rs ≡ true)
+  parts = and_parts (ascending rs) (closed rs rs) t
+
+  -- every row's parent has a row
+  pub parents : rooted rs rs ≡ true
+  parents = closed-rooted rs rs parts.1
+
+  module _ (p : Names) where
+    pub taken : has_child rs p ≡ false → without p rs ≡ set_at rs p None
+    taken none = sym (set_none rs parts.1 p none parts.0)
+
+    pub over : (v : Entry) → has rs p ≡ true → replaced rs p v ≡ set_at rs p (Some v)
+    over v h = sym (set_replaced rs p v parts.0 h)
+
+    pub absent : (v : Entry) → has rs p ≡ false → replaced rs p v ≡ rs
+    absent v h = replaced_absent rs p v h
+
+    pub fits : (v : Entry) → has rs p ≡ false → need_at rs p ≤ room_of rs → splices 256 ((p, v) ∷ []) rs ≡ true
+    fits v h l =
+        let room : 1 ≤ room_of rs = subst (λ b. cond b 0 1 ≤ room_of rs) h l in
+        one_splices p v rs parts.0 h 256 room
+
+    pub beside : (v : Entry) → has rs p ≡ false → spliced ((p, v) ∷ []) rs ≡ set_at rs p (Some v)
+    beside v h = sym (set_spliced p v rs parts.0 h)
+
+-- what `set` needs
+pub ruleset setting = (over, absent, fits, beside)
+
+module _ (rs : List Row) (x : Path) (a : Action) (t : is_tree rs ≡ true) (h : refused_at rs (room_of rs) (need_at rs (names x)) (names x) a ≡ None) where
+  pub whole : is_tree (set_at rs (names x) (new_entry a (at rs (names x)))) ≡ true
+  whole =
+      let b = parts rs t in
+      subst (λ rs. is_tree rs ≡ true) (edited-is rs (names x) a) (edited-closed rs (room_of rs) (need_at rs (names x)) (names x) b.0 b.1 (path_fine x) a h)
+
+  pub enough : need_at rs (names x) ≤ room_of rs
+  enough = granted-room rs (room_of rs) (need_at rs (names x)) (names x) a h
+
+  pub bare : new_entry a (at rs (names x)) ≡ None → has_child rs (names x) ≡ false
+  bare e =
+      let b = parts rs t in
+      emptied rs (room_of rs) (need_at rs (names x)) (names x) b.0 b.1 (path_fine x) a h e
+
+-- what `apply` needs
+pub ruleset applying = (whole, enough, bare, edited-is)
