@@ -28,7 +28,7 @@ module _ {V : Type 0} where
   abbrev pub is_ahead : Names → Row V → Bool
   is_ahead p r = before (names r.path) p
 
-  pub in-at : (rs : List (Row V)) (i : ℕ) (d : Row V) → i < length rs → In (rows_of rs) (row_of (get_or rs i d))
+  in-at : (rs : List (Row V)) (i : ℕ) (d : Row V) → i < length rs → In (rows_of rs) (row_of (get_or rs i d))
   in-at [] i d h = absurd (omega arith)
   in-at (r ∷ rs) zero d h = inl refl
   in-at (r ∷ rs) (suc i) d h = inr (in-at rs i d (omega arith))

@@ -20,7 +20,7 @@ use Rattle.rows.proofs.Leads.{set_lead}
 use Rattle.rows.proofs.Changed.{under-says}
 
 -- the last elements at their place among the first
-pub moved_in : {R : Type 0} (xs new all : List R) (at : ℕ) → all ≡ xs ++ new → at ≤ length xs → take at all ++ (drop (length all - length new) all ++ slice_range all at (length all - length new)) ≡ take at xs ++ (new ++ drop at xs)
+moved_in : {R : Type 0} (xs new all : List R) (at : ℕ) → all ≡ xs ++ new → at ≤ length xs → take at all ++ (drop (length all - length new) all ++ slice_range all at (length all - length new)) ≡ take at xs ++ (new ++ drop at xs)
 moved_in xs new all at is le = rw is (same_lists _ _ (search (rules, places)) (λ k d h. grind (arith, places)))
 
 -- what a test of prefixes answers

@@ -10,6 +10,7 @@ use std::default::MadeWith;
 mod edits;
 mod reads;
 
+// `ArrayVec` keeps a blank row, which fills the places that hold none.
 #[derive(Drop)]
 pub struct Table<V, const N: usize> {
     rows: ArrayVec<Row<V>, N, Row<V>>,
@@ -17,7 +18,7 @@ pub struct Table<V, const N: usize> {
     ghost rises: { ascending (rows_of rows.items) ≡ true },
 }
 
-// What fills the places that hold no row.
+// The blank is given to `Table::new`, since a `V` need not have a `Default`.
 impl<V: Copy> MadeWith<Row<V>> for Row<V> {
     fn made_with(blank: Row<V>) -> Row<V>
         ensures { result ≡ blank }

@@ -1,7 +1,7 @@
 // Where an edit of sorted rows begins and ends.
-ghost use Rattle.std.specs.Prelude.{◌≡◌, ◌≤◌, true, false, ◌++◌, length, take, drop, MatchOption};
+ghost use Rattle.std.specs.Prelude.{◌≡◌, false, drop, MatchOption};
 ghost use Rattle.paths.specs.Paths.{names};
-ghost use Rattle.rows.specs.Maps.{above, ascending, without};
+ghost use Rattle.rows.specs.Maps.{above, ascending};
 ghost use Rattle.rows.specs.Rows.{rows_of};
 ghost use Rattle.rows.specs.Tables.{spliced, Spliced};
 
