@@ -1,7 +1,7 @@
 -- What an edit makes of rows: kept by a test, with a value replaced, with rows put among them. Assumes nothing.
 use Rattle.std.proofs.Common.{◌≡◌, ◌+◌, Bool, true, false, cond, not, ◌&&◌, List, [], ◌∷◌, ◌++◌, map, length, take, drop, is_some, Some, None, Decides, Option, sym, refl, ap, ◌∙◌, inl, inr, ⊎_elim, arith}
 use Rattle.std.proofs.lemmas.List.{length-append, length-take, length-drop, take-append-drop}
-use Rattle.std.proofs.lemmas.Bool.{true≢false, and_from, cond-true}
+use Rattle.std.proofs.lemmas.Bool.{true≢false, and_from}
 use Rattle.std.specs.Option.{option_map}
 use Rattle.std.specs.Ordering.{is_eq}
 use Rattle.paths.specs.Names.{Under}
@@ -34,7 +34,7 @@ module _ {V : Type 0} where
       go true more i = ⊎_elim (λ s. inl s) (λ j. inr (more j)) i
       go false more i = inr (more i)
 
-    pub at_only : (rs : List (Names × V)) (q : Names) → at (only t rs) q ≡ cond (t q) (at rs q) None
+    at_only : (rs : List (Names × V)) (q : Names) → at (only t rs) q ≡ cond (t q) (at rs q) None
     at_only [] q = elim (t q) as (λ c. ◌≡◌ {A = Option V} None (cond c None None)) [ true ↦ refl | false ↦ refl ]
     at_only (r ∷ rs) q =
         keep (t r.0)
@@ -59,10 +59,6 @@ module _ {V : Type 0} where
       go : (a : Bool) → ascending (only t rs) ≡ true → ascending (cond a (r ∷ only t rs) (only t rs)) ≡ true
       go true more = and_from (above r.0 (only t rs)) (ascending (only t rs)) (above_all r.0 (only t rs) (λ x i. head_least r rs up x (in-only rs x i))) more
       go false more = more
-
-    pub only_all : (rs : List (Names × V)) → ((x : Names × V) → In rs x → t x.0 ≡ true) → only t rs ≡ rs
-    only_all [] h = refl
-    only_all (r ∷ rs) h = cond-true (t r.0) (r ∷ only t rs) (only t rs) (h r (inl refl)) ∙ ap (λ xs. r ∷ xs) (only_all rs (λ x i. h x (inr i)))
 
   pub at-without : (p : Names) (rs : List (Names × V)) (q : Names) → at (without p rs) q ≡ cond (under p q) None (at rs q)
   at-without p rs q = at_only (λ z. not (under p z)) rs q ∙ elim (under p q) as (λ t. cond (not t) (at rs q) None ≡ cond t None (at rs q)) [ true ↦ refl | false ↦ refl ]
@@ -127,12 +123,12 @@ module _ {V : Type 0} where
   in_right (z ∷ xs) ys x i = inr (in_right xs ys x i)
 
   -- what stands in front comes before what stands behind
-  pub front-before : (xs ys : List (Names × V)) → ascending (xs ++ ys) ≡ true → (x y : Names × V) → In xs x → In ys y → before x.0 y.0 ≡ true
+  front-before : (xs ys : List (Names × V)) → ascending (xs ++ ys) ≡ true → (x y : Names × V) → In xs x → In ys y → before x.0 y.0 ≡ true
   front-before [] ys up x y i j = absurd i
   front-before (z ∷ xs) ys up x y i j =
       ⊎_elim (λ s. ap (λ w. before w.0 y.0) s ∙ head_least z (xs ++ ys) up y (in_right xs ys y j)) (λ k. front-before xs ys (tail-ascends z (xs ++ ys) up) x y k j) i
 
-  pub at-append : (xs ys : List (Names × V)) (q : Names) → at (xs ++ ys) q ≡ or_else (at xs q) (at ys q)
+  at-append : (xs ys : List (Names × V)) (q : Names) → at (xs ++ ys) q ≡ or_else (at xs q) (at ys q)
   at-append [] ys q = refl
   at-append (x ∷ xs) ys q = at-cons x (xs ++ ys) q ∙ go (is_at q x) (at-append xs ys q) ∙ ap (λ o. or_else o (at ys q)) (sym (at-cons x xs q)) where
     go : (a : Bool) → at (xs ++ ys) q ≡ or_else (at xs q) (at ys q) → cond a (Some x.1) (at (xs ++ ys) q) ≡ or_else (cond a (Some x.1) (at xs q)) (at ys q)

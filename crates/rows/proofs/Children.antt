@@ -1,10 +1,14 @@
 -- The first child behind a name is the least. Assumes nothing.
-use Rattle.std.proofs.Common.{◌≡◌, ℕ, suc, Bool, true, false, cond, not, ◌⊎◌, List, [], ◌∷◌, ◌++◌, drop, Some, None, Option, Ordering, Less, Equal, Greater, sym, refl, ap, ◌∙◌, subst, ⊎_elim, append-nil}
+use Rattle.std.proofs.Common.{◌≡◌, ℕ, suc, Bool, true, false, cond, not, ◌⊎◌, List, [], ◌∷◌, ◌++◌, drop, Some, None, Option, slice_get, MatchOption, length, ◌<◌, Ordering, Less, Equal, Greater, sym, refl, ap, ◌∙◌, subst, ⊎_elim, append-nil}
 use Rattle.std.proofs.lemmas.Bool.{true≢false, both_ways, and_parts, and_from, not-true, not_from_false}
 use Rattle.std.specs.Cmp.{nat_cmp_total}
 use Rattle.std.specs.Cmp.Lexicographic.{lists_total}
 use Rattle.std.specs.Option.{option_map}
-use Rattle.std.specs.Ordering.{is_lt, is_eq, is_le, ordering_reverse, ordering_then}
+use Rattle.std.specs.Ordering.{is_lt, is_eq, is_le, ordering_reverse, ordering_then, eq_by_cmp}
+use Rattle.std.specs.Bool.{then_some}
+use Rattle.std.specs.Option.{option_eq}
+use Rattle.paths.specs.declared.Path.{Path}
+use Rattle.paths.specs.Paths.{names, order}
 use Rattle.paths.specs.Names.{parent, last_name, Under}
 use Rattle.paths.specs.Order.{by_bytes, by_names}
 use Rattle.paths.proofs.Laws.{itself, between}
@@ -12,6 +16,7 @@ use Rattle.rows.specs.declared.row.Row.{Row}
 use Rattle.rows.specs.Maps.{Names, before, first, ascending, rooted, has, is_child, child_path}
 use Rattle.rows.specs.Rows.{rows_of}
 use Rattle.rows.specs.Positions.{behind, lead, child_head, child_at}
+use Rattle.rows.proofs.Leads.{is_ahead, asked-at, not_ahead}
 use Rattle.rows.proofs.Orders.{before-le, not_before-same, not_both, same-is, is_same, shared, parent-child, as_child, no_name_least}
 use Rattle.rows.proofs.Firsts.{In, first_some, first-none, first-least, first-is, first_no, there, at-holds, in-there, child-there}
 use Rattle.rows.proofs.Places.{Clean, clean_path, clean_at, not_before-le, before_then_le, under-place, self_place}
@@ -149,3 +154,25 @@ module _ {V : Type 0} where
 
   pub least-child : (rs : List (Row V)) → ascending (rows_of rs) ≡ true → rooted (rows_of rs) (rows_of rs) ≡ true → (p : Names) (a : List ℕ) → child_at (rows_of rs) p a ≡ child_path (rows_of rs) p a
   least-child rs up c p a = least (rows_of rs) up c (clean-rows rs) p a
+
+  abbrev child_in : Names → Option (Row V) → Option Names
+  child_in p None = None
+  child_in p (Some r) = cond (is_eq (by_names (parent (names r.path)) p)) (Some (names r.path)) None
+
+  -- the row behind the name decides
+  module _ (rs : List (Row V)) (p : Names) (a : List ℕ) (q : Names) (s : q ≡ p ++ behind a ∷ []) where
+    pub child_read : (o : Option (Row V)) → o ≡ slice_get rs (lead q (rows_of rs)) → child_in p o ≡ child_at (rows_of rs) p a
+    child_read o e =
+        ap (child_in p) e ∙ ap (λ z. child_in p (slice_get rs (lead z (rows_of rs)))) s
+        ∙ sym (asked-at (child_head p) (child_in p) refl (λ r rest. refl) rs (lead (p ++ behind a ∷ []) (rows_of rs)))
+
+    -- it is not the root, so its parent is that of the path
+    pub child_found : (r : Row V) → Some r ≡ slice_get rs (lead q (rows_of rs)) → (up : Option Path) → MatchOption up (names r.path ≡ []) (λ u. (0 < length (names r.path)) × (names u ≡ parent (names r.path))) → (x : Path) → names x ≡ p → (b : Bool) → b ≡ option_eq (eq_by_cmp order) up (Some x) → option_map names (then_some b r.path) ≡ child_at (rows_of rs) p a
+    child_found r e up m x xs b t = by b ∙ ap (λ c. cond c (Some (names r.path)) None) (t ∙ test up m) ∙ child_read (Some r) e where
+      by : (b : Bool) → option_map names (then_some b r.path) ≡ cond b (Some (names r.path)) None
+      by true = refl
+      by false = refl
+
+      test : (up : Option Path) → MatchOption up (names r.path ≡ []) (λ u. (0 < length (names r.path)) × (names u ≡ parent (names r.path))) → option_eq (eq_by_cmp order) up (Some x) ≡ is_eq (by_names (parent (names r.path)) p)
+      test None root = absurd (both_ways (is_ahead q r) (not_ahead q rs r e) (ap (λ z. before z q) root ∙ ap (before []) s ∙ root_first p (behind a)))
+      test (Some u) m = ap (λ z. is_eq (by_names z (names x))) m.1 ∙ ap (λ z. is_eq (by_names (parent (names r.path)) z)) xs

@@ -62,9 +62,6 @@ module _ {V : Type 0} where
 
   -- ---- what stands at a path
 
-  abbrev pub Holds : List (Names × V) → Names → V → Type 0
-  Holds rs p e = In rs (p, e)
-
   pub holds_at : (rs : List (Names × V)) → ascending rs ≡ true → (p : Names) (e : V) → In rs (p, e) → at rs p ≡ Some e
   holds_at rs a p e i =
       ap (option_map (λ r. r.1)) (first-is (is_at p) rs a (p, e) i (is_same p p refl) low) where

@@ -1,15 +1,19 @@
 -- The rows at the front that come before a place. Assumes nothing.
-use Rattle.std.proofs.Common.{◌≡◌, ℕ, zero, suc, ◌+◌, ◌<◌, ◌≤◌, Bool, true, false, cond, ◌&&◌, ltb, List, [], ◌∷◌, length, get_or, drop, set, is_some, Some, None, Option, Ordering, Less, Equal, Greater, sym, refl, ap, ◌∙◌, subst, inl, inr, arith}
-use Rattle.std.proofs.lemmas.List.{at_drop_more, at_drop_all, drop-map, length-drop}
-use Rattle.std.proofs.lemmas.Bool.{true≢false, both_ways, cond-true, cond-false, lt-ltb, le-ltb}
-use Rattle.std.specs.Option.{option_map}
+use Rattle.std.proofs.Common.{◌≡◌, ℕ, zero, suc, ◌+◌, ◌<◌, ◌≤◌, Bool, true, false, cond, ◌&&◌, List, [], ◌∷◌, length, get_or, drop, set, is_some, Some, None, Option, slice_get, MatchOption, Bor, Ordering, Less, Equal, Greater, sym, refl, ap, ◌∙◌, subst, inl, inr, arith}
+use Rattle.std.proofs.lemmas.Bool.{true≢false, both_ways, cond-true, cond-false}
+use Rattle.std.proofs.lemmas.Option.{none-some, same_Some}
+use Rattle.std.specs.Bool.{then_some}
+use Rattle.std.specs.List.Sorted.{IsPartitionPoint, IsPartitionedBy}
+use Rattle.std.specs.List.{AllAdjacentBelow, IsAllAdjacentAnswer}
+use native.Mathlib.Numerals.{unary_clauses}
+use Rattle.std.specs.Option.{option_map, option_copied}
 use Rattle.std.specs.Ordering.{is_lt, is_eq}
 use Rattle.paths.specs.Order.{by_names}
 use Rattle.paths.specs.Paths.{names}
 use Rattle.rows.specs.declared.row.Row.{Row}
-use Rattle.rows.specs.Maps.{Names, before, first, is_at, at, has, above, ascending, replaced}
-use Rattle.rows.specs.Rows.{keyed, row_of, rows_of}
-use Rattle.rows.specs.Positions.{lead}
+use Rattle.rows.specs.Maps.{Names, before, first, is_at, at, has, ascending, replaced}
+use Rattle.rows.specs.Rows.{row_of, rows_of}
+use Rattle.rows.specs.Positions.{lead, Here}
 use Rattle.rows.proofs.Orders.{before-trans, same-is}
 use Rattle.rows.proofs.Firsts.{In, first_no, head_least, tail-ascends}
 
@@ -18,101 +22,83 @@ lt-not-eq Less h = refl
 lt-not-eq Equal h = absurd (true≢false (sym h))
 lt-not-eq Greater h = refl
 
--- ---- how many they are
-
-module _ {R : Type 0} (key : R → Names) (p : Names) where
-  pub lead-within : (rs : List R) → lead p (keyed key rs) ≤ length rs
-  lead-within [] = omega arith
-  lead-within (r ∷ rs) =
-      elim (before (key r) p) as (λ t. cond t (suc (lead p (keyed key rs))) 0 ≤ suc (length rs)) [ true ↦ omega (arith, lead-within rs) | false ↦ omega arith ]
-
-  in-at : (rs : List R) (i : ℕ) (x : R) → i < length rs → x ≡ get_or rs i x → In (keyed key rs) (key x, x)
-  in-at [] i x h is = absurd (omega arith)
-  in-at (r ∷ rs) zero x h is = inl (ap (λ z. (key z, z)) is)
-  in-at (r ∷ rs) (suc i) x h is = inr (in-at rs i x (omega arith) is)
-
-  -- a row that comes before the place
-  lead_past : (rs : List R) → ascending (keyed key rs) ≡ true → (i : ℕ) (x : R) → i < length rs → x ≡ get_or rs i x → before (key x) p ≡ true → i < lead p (keyed key rs)
-  lead_past [] up i x h is b = absurd (omega arith)
-  lead_past (r ∷ rs) up zero x h is b =
-      let e = cond-true (before (key r) p) (suc (lead p (keyed key rs))) 0 (ap (λ z. before (key z) p) (sym is) ∙ b) in
-      omega (arith, e)
-  lead_past (r ∷ rs) up (suc i) x h is b =
-      let l = head_least (key r, r) (keyed key rs) up (key x, x) (in-at rs i x (omega arith) is) in
-      let e = cond-true (before (key r) p) (suc (lead p (keyed key rs))) 0 (before-trans (key r) (key x) p l b) in
-      let more = lead_past rs (tail-ascends (key r, r) (keyed key rs) up) i x (omega arith) is b in
-      omega (arith, e, more)
-
-  -- one that does not
-  lead_upto : (rs : List R) (i : ℕ) (x : R) → i < length rs → x ≡ get_or rs i x → before (key x) p ≡ false → lead p (keyed key rs) ≤ i
-  lead_upto [] i x h is b = absurd (omega arith)
-  lead_upto (r ∷ rs) zero x h is b =
-      let e = cond-false (before (key r) p) (suc (lead p (keyed key rs))) 0 (ap (λ z. before (key z) p) (sym is) ∙ b) in
-      omega (arith, e)
-  lead_upto (r ∷ rs) (suc i) x h is b =
-      let more = lead_upto rs i x (omega arith) is b in
-      elim (before (key r) p) as (λ t. cond t (suc (lead p (keyed key rs))) 0 ≤ suc i) [ true ↦ omega arith | false ↦ omega arith ]
-
-  -- a row that was read
-  pub lead_test : (rs : List R) → ascending (keyed key rs) ≡ true → (i : ℕ) (x : R) → i < length rs → x ≡ get_or rs i x → before (key x) p ≡ ltb i (lead p (keyed key rs))
-  lead_test rs up i x h is = go (before (key x) p) refl where
-    go : (t : Bool) → before (key x) p ≡ t → t ≡ ltb i (lead p (keyed key rs))
-    go true e = sym (lt-ltb i (lead p (keyed key rs)) (lead_past rs up i x h is e))
-    go false e = sym (le-ltb i (lead p (keyed key rs)) (lead_upto rs i x h is e))
-
 module _ {V : Type 0} where
-  -- ---- rows in memory
+  -- ---- how many they are
 
-  pub lead-rows : (p : Names) (rs : List (Row V)) → lead p (keyed (λ r. names r.path) rs) ≡ lead p (rows_of rs)
-  lead-rows p [] = refl
-  lead-rows p (r ∷ rs) = ap (λ n. cond (before (names r.path) p) (suc n) 0) (lead-rows p rs)
+  abbrev pub is_ahead : Names → Row V → Bool
+  is_ahead p r = before (names r.path) p
 
-  pub rises-rows : (rs : List (Row V)) → ascending (keyed (λ r. names r.path) rs) ≡ ascending (rows_of rs)
-  rises-rows [] = refl
-  rises-rows (r ∷ []) = refl
-  rises-rows (r ∷ s ∷ rs) = ap (λ t. before (names r.path) (names s.path) && t) (rises-rows (s ∷ rs))
+  in-at : (rs : List (Row V)) (i : ℕ) (d : Row V) → i < length rs → In (rows_of rs) (row_of (get_or rs i d))
+  in-at [] i d h = absurd (omega arith)
+  in-at (r ∷ rs) zero d h = inl refl
+  in-at (r ∷ rs) (suc i) d h = inr (in-at rs i d (omega arith))
 
-  pub lead_of : (rs : List (Row V)) (q p : Names) (i : ℕ) → i ≡ lead q (keyed (λ r. names r.path) rs) → q ≡ p → i ≡ lead p (rows_of rs)
-  lead_of rs q p i e s = e ∙ ap (λ z. lead z (keyed (λ r. names r.path) rs)) s ∙ lead-rows p rs
+  -- the rows that come before a place stand in front of those that do not
+  pub ahead-parted : (p : Names) (rs : List (Row V)) → ascending (rows_of rs) ≡ true → IsPartitionedBy (is_ahead p) rs
+  ahead-parted p [] up i j d le h b = absurd (omega arith)
+  ahead-parted p (r ∷ rs) up zero zero d le h b = b
+  ahead-parted p (r ∷ rs) up zero (suc j) d le h b =
+      before-trans (names r.path) (names (get_or rs j d).path) p (head_least (row_of r) (rows_of rs) up (row_of (get_or rs j d)) (in-at rs j d (omega arith))) b
+  ahead-parted p (r ∷ rs) up (suc i) zero d le h b = absurd (omega arith)
+  ahead-parted p (r ∷ rs) up (suc i) (suc j) d le h b = ahead-parted p rs (tail-ascends (row_of r) (rows_of rs) up) i j d (omega arith) (omega arith) b
 
-  -- what is asked of the rows from an index on
-  module _ {Y : Type 0} (F : List (Names × V) → Y) (rs : List (Row V)) (i n : ℕ) (e : i ≡ n) where
-    pub rest-here : (r : Row V) → i < length rs → r ≡ get_or rs i r → F (drop n (rows_of rs)) ≡ F (row_of r ∷ rows_of (drop (i + 1) rs))
-    rest-here r h is =
-        ap (λ k. F (drop k (rows_of rs))) (sym e) ∙ ap F (drop-map row_of i rs) ∙ at_drop_more (λ xs. F (rows_of xs)) rs i r h ∙ ap (λ x. F (row_of x ∷ rows_of (drop (i + 1) rs))) (sym is)
+  pub lead-point : (p : Names) (rs : List (Row V)) (i : ℕ) → i ≤ length rs → IsPartitionPoint (λ r. is_ahead p r ≡ true) (λ r. is_ahead p r ≡ false) rs i → i ≡ lead p (rows_of rs)
+  lead-point p [] i h point = omega arith
+  lead-point p (r ∷ rs) zero h point = sym (cond-false (is_ahead p r) (suc (lead p (rows_of rs))) 0 (point.1 0 r (omega arith) (omega arith)))
+  lead-point p (r ∷ rs) (suc i) h point =
+      let rest = lead-point p rs i (omega arith) (λ k d low high. point.0 (suc k) d (omega arith) (omega arith), λ k d low high. point.1 (suc k) d (omega arith) (omega arith)) in
+      ap suc rest ∙ sym (cond-true (is_ahead p r) (suc (lead p (rows_of rs))) 0 (point.0 0 r (omega arith) (omega arith)))
 
-    pub rest-none : length rs ≤ i → F (drop n (rows_of rs)) ≡ F []
-    rest-none h = ap (λ k. F (drop k (rows_of rs))) (sym e) ∙ ap F (drop-map row_of i rs) ∙ at_drop_all (λ xs. F (rows_of xs)) rs i h
+  -- ---- the row at an index
+
+  -- what is asked of the first of the rows from an index on
+  pub asked-at : {Y : Type 0} (F : List (Names × V) → Y) (G : Option (Row V) → Y) → F [] ≡ G None → ((r : Row V) (rs : List (Row V)) → F (rows_of (r ∷ rs)) ≡ G (Some r)) → (rs : List (Row V)) (i : ℕ) → F (drop i (rows_of rs)) ≡ G (slice_get rs i)
+  asked-at F G none some [] i = ap F (nothing i) ∙ none where
+    nothing : (i : ℕ) → ◌≡◌ {A = List (Names × V)} (drop i []) []
+    nothing zero = refl
+    nothing (suc i) = refl
+  asked-at F G none some (r ∷ rs) zero = some r rs
+  asked-at F G none some (r ∷ rs) (suc i) = asked-at F G none some rs i
+
+  -- the row behind those that come before a place does not come before it
+  pub not_ahead : (p : Names) (rs : List (Row V)) (r : Row V) → Some r ≡ slice_get rs (lead p (rows_of rs)) → is_ahead p r ≡ false
+  not_ahead p [] r h = absurd (none-some r (sym h))
+  not_ahead p (x ∷ rs) r h = go (is_ahead p x) refl (not_ahead p rs r) h where
+    go : (t : Bool) → is_ahead p x ≡ t → (Some r ≡ slice_get rs (lead p (rows_of rs)) → is_ahead p r ≡ false) → Some r ≡ slice_get (x ∷ rs) (cond t (suc (lead p (rows_of rs))) 0) → is_ahead p r ≡ false
+    go true e more h = more h
+    go false e more h = ap (is_ahead p) (same_Some r x h) ∙ e
 
   -- ---- neighbours
 
-  module _ (rs : List (Row V)) (i j : ℕ) (d f : Row V) (next : j + 1 ≡ i) (h : i < length rs) where
-    rises-at : ascending (rows_of (drop j rs)) ≡ (before (names (get_or rs j d).path) (names (get_or rs i f).path) && ascending (rows_of (drop i rs)))
-    rises-at =
-        at_drop_more (λ xs. ascending (rows_of xs)) rs j d (omega arith)
-        ∙ ap (λ k. above (names (get_or rs j d).path) (rows_of (drop k rs)) && ascending (rows_of (drop k rs))) next
-        ∙ at_drop_more (λ xs. above (names (get_or rs j d).path) (rows_of xs) && ascending (rows_of (drop i rs))) rs i f h
+  rises_on : (rs : List (Row V)) → AllAdjacentBelow (λ a b. true ≡ before (names a.path) (names b.path)) rs (length rs) → ascending (rows_of rs) ≡ true
+  rises_on [] h = refl
+  rises_on (r ∷ []) h = refl
+  rises_on (r ∷ s ∷ rs) h = ap (λ b. b && ascending (rows_of (s ∷ rs))) (sym (h 0 r (omega arith))) ∙ rises_on (s ∷ rs) (λ k d l. simp unary_clauses (simp unary_clauses at (h (suc k) d (omega arith))))
 
-    pub rises_on : before (names (get_or rs j d).path) (names (get_or rs i f).path) ≡ true → ascending (rows_of (drop j rs)) ≡ ascending (rows_of (drop i rs))
-    rises_on e = rises-at ∙ ap (λ t. t && ascending (rows_of (drop i rs))) e
+  rises-not : (rs : List (Row V)) (k : ℕ) → k + 1 < length rs → ((d : Row V) → false ≡ before (names (get_or rs k d).path) (names (get_or rs (k + 1) d).path)) → ascending (rows_of rs) ≡ false
+  rises-not [] k l h = absurd (omega arith)
+  rises-not (r ∷ []) k l h = absurd (omega arith)
+  rises-not (r ∷ s ∷ rs) zero l h = ap (λ b. b && ascending (rows_of (s ∷ rs))) (sym (h r))
+  rises-not (r ∷ s ∷ rs) (suc k) l h = go (before (names r.path) (names s.path)) (rises-not (s ∷ rs) k (omega arith) (λ d. simp unary_clauses (simp unary_clauses at (h d)))) where
+    go : (b : Bool) → ascending (rows_of (s ∷ rs)) ≡ false → (b && ascending (rows_of (s ∷ rs))) ≡ false
+    go true e = e
+    go false e = refl
 
-    pub rises-not : before (names (get_or rs j d).path) (names (get_or rs i f).path) ≡ false → ascending (rows_of (drop j rs)) ≡ false
-    rises-not e = rises-at ∙ ap (λ t. t && ascending (rows_of (drop i rs))) e
-
-  pub rises_out : (rs : List (Row V)) (j : ℕ) → length rs ≤ j + 1 → ascending (rows_of (drop j rs)) ≡ true
-  rises_out rs j h = short (drop j rs) (omega (arith, length-drop j rs)) where
-    short : (xs : List (Row V)) → length xs ≤ 1 → ascending (rows_of xs) ≡ true
-    short [] l = refl
-    short (x ∷ []) l = refl
-    short (x ∷ y ∷ xs) l = absurd (omega arith)
+  pub rises-answer : (rs : List (Row V)) (b : Bool) → IsAllAdjacentAnswer (λ x y t. t ≡ before (names x.path) (names y.path)) rs b → b ≡ ascending (rows_of rs)
+  rises-answer rs true h = sym (rises_on rs h)
+  rises-answer rs false h = sym (rises-not rs h.0 h.1 h.2)
 
   -- ---- the row at a path
 
-  abbrev pub at_head : Names → List (Names × V) → Option V
+  abbrev pub value_in : Names → Option (Row V) → Option V
+  value_in p None = None
+  value_in p (Some r) = cond (is_at p (row_of r)) (Some r.value) None
+
+  abbrev at_head : Names → List (Names × V) → Option V
   at_head p [] = None
   at_head p (r ∷ rs) = cond (is_at p r) (Some r.1) None
 
-  pub at-lead : (rs : List (Names × V)) (p : Names) → ascending rs ≡ true → at rs p ≡ at_head p (drop (lead p rs) rs)
+  at-lead : (rs : List (Names × V)) (p : Names) → ascending rs ≡ true → at rs p ≡ at_head p (drop (lead p rs) rs)
   at-lead [] p up = refl
   at-lead (r ∷ rs) p up = go (before r.0 p) refl (at-lead rs p (tail-ascends r rs up)) where
     later : before r.0 p ≡ false → (x : Names × V) → In rs x → is_at p x ≡ false
@@ -128,22 +114,24 @@ module _ {V : Type 0} where
       by true = refl
       by false = ap (option_map (λ x. x.1)) (first_no (is_at p) rs (later e))
 
-  -- a row that was read at that place
-  module _ (rs : List (Row V)) (up : ascending (rows_of rs) ≡ true) (p : Names) (i : ℕ) (e : i ≡ lead p (rows_of rs)) (r : Row V) (h : i < length rs) (is : r ≡ get_or rs i r) where
-    pub at_read : at (rows_of rs) p ≡ cond (is_at p (row_of r)) (Some r.value) None
-    at_read = at-lead (rows_of rs) p up ∙ rest-here (at_head p) rs i (lead p (rows_of rs)) e r h is
+  module _ (rs : List (Row V)) (up : ascending (rows_of rs) ≡ true) (q p : Names) (s : q ≡ p) where
+    -- the row at that place decides
+    pub at_read : (o : Option (Row V)) → o ≡ slice_get rs (lead q (rows_of rs)) → at (rows_of rs) p ≡ value_in p o
+    at_read o e =
+        at-lead (rows_of rs) p up ∙ asked-at (at_head p) (value_in p) refl (λ r rest. refl) rs (lead p (rows_of rs))
+        ∙ ap (λ z. value_in p (slice_get rs (lead z (rows_of rs)))) (sym s) ∙ ap (value_in p) (sym e)
 
-    pub read_there : is_at p (row_of r) ≡ true → at (rows_of rs) p ≡ Some r.value
-    read_there t = at_read ∙ cond-true (is_at p (row_of r)) (Some r.value) None t
+    pub find_read : (r : Bor (Row V)) (v : Bor V) → v.now ≡ r.now.value → Some r.now ≡ slice_get rs (lead q (rows_of rs)) → (b : Bool) → b ≡ is_at p (row_of r.now) → option_copied (then_some b v) ≡ at (rows_of rs) p
+    find_read r v same e b t = by b ∙ ap (λ c. cond c (Some r.now.value) None) t ∙ sym (at_read (Some r.now) e) where
+      by : (b : Bool) → option_copied (then_some b v) ≡ cond b (Some r.now.value) None
+      by true = ap Some same
+      by false = refl
 
-    pub read_missing : is_at p (row_of r) ≡ false → at (rows_of rs) p ≡ None
-    read_missing t = at_read ∙ cond-false (is_at p (row_of r)) (Some r.value) None t
-
-    pub there_read : has (rows_of rs) p ≡ true → at (rows_of rs) p ≡ Some r.value
-    there_read t = at_read ∙ go (is_at p (row_of r)) (sym (ap is_some at_read) ∙ t) where
-      go : (b : Bool) → is_some (cond b (Some r.value) None) ≡ true → cond b (Some r.value) None ≡ Some r.value
-      go true k = refl
-      go false k = absurd (true≢false (sym k))
+    pub locate_read : (i : ℕ) → i ≡ lead q (rows_of rs) → (r : Row V) → i < length rs → Some r ≡ slice_get rs i → (b : Bool) → b ≡ is_at p (row_of r) → MatchOption (then_some b i) (at (rows_of rs) p ≡ None) (Here rs p)
+    locate_read i n r h e b t = by b (at_read (Some r) (e ∙ ap (slice_get rs) n) ∙ ap (λ c. cond c (Some r.value) None) (sym t)) where
+      by : (b : Bool) → at (rows_of rs) p ≡ cond b (Some r.value) None → MatchOption (then_some b i) (at (rows_of rs) p ≡ None) (Here rs p)
+      by true a = record { value = n ∙ ap (λ z. lead z (rows_of rs)) s; within = h; there = ap is_some a }
+      by false a = a
 
   -- the value written there
   pub set_lead : (rs : List (Names × V)) → ascending rs ≡ true → (p : Names) (v : V) → has rs p ≡ true → set rs (lead p rs) (p, v) ≡ replaced rs p v

@@ -7,7 +7,6 @@ pub mod Built
 pub mod Unders
 pub mod Changed
 pub mod Ranges
-pub mod Moves
 pub mod Tables
 pub mod Inserts
 pub mod Least

@@ -1,59 +1,85 @@
--- The first rows of an array, when it is edited. Assumes nothing.
-use Rattle.std.proofs.Common.{◌≡◌, ℕ, zero, suc, ◌+◌, ◌-◌, ◌<◌, ◌≤◌, true, false, leb, List, [], ◌∷◌, ◌++◌, length, take, drop, set, sym, refl, ap, ◌∙◌, arith}
-use Rattle.std.proofs.lemmas.List.{map-set, length-map, length-take-le, take-append-drop}
-use Rattle.std.proofs.lemmas.Bool.{le-leb, lt-leb}
+-- The rows of a table, when it is edited. Assumes nothing.
+use Rattle.std.proofs.Common.{◌≡◌, ℕ, ◌+◌, ◌-◌, ◌≤◌, Bool, true, false, cond, not, List, [], ◌∷◌, ◌++◌, length, take, drop, set, filter, slice_range, Decides, Result, Ok, Err, ◌↔◌, sym, refl, ap, ◌∙◌, arith, rules}
+use mathlib.Core.List.{map-append}
+use Rattle.std.proofs.lemmas.List.{same_lists, places, map-set, length-map, length-append, length-take, length-drop, take-map, drop-map}
+use Rattle.std.proofs.lemmas.Bool.{true≢false}
+use Rattle.std.proofs.lemmas.Bool.Decides.{same_from_decides}
+use Rattle.std.specs.Result.{is_err, IsOk, OnOk}
+use Rattle.std.specs.List.{refill}
+use Rattle.std.specs.List.Retain.{RetainsInTurn}
+use Rattle.arrayvec.proofs.ArrayVecLemmas.{items-with_items, filter-from_retain}
 use Rattle.paths.specs.declared.Path.{Path}
+use Rattle.paths.specs.Names.{Under}
 use Rattle.paths.specs.Paths.{names}
 use Rattle.rows.specs.declared.row.Row.{Row}
-use Rattle.rows.specs.Maps.{Names, ascending, replaced, without}
+use Rattle.rows.specs.Maps.{Names, under, ascending, replaced, without}
 use Rattle.rows.specs.Rows.{row_of, rows_of}
 use Rattle.rows.specs.Positions.{Here}
-use Rattle.rows.specs.Moves.{opened, closed}
 use Rattle.rows.specs.Tables.{spliced, Spliced}
 use Rattle.rows.proofs.Leads.{set_lead}
-use Rattle.rows.proofs.Moves.{listed-opened, listed-closed}
+use Rattle.rows.proofs.Changed.{under-says}
 
-take_set_in : {A : Type 0} (xs : List A) (n i : ℕ) (x : A) → take n (set xs i x) ≡ set (take n xs) i x
-take_set_in [] zero i x = refl
-take_set_in [] (suc n) i x = refl
-take_set_in (y ∷ xs) zero i x = refl
-take_set_in (y ∷ xs) (suc n) zero x = refl
-take_set_in (y ∷ xs) (suc n) (suc i) x = ap (λ ys. y ∷ ys) (take_set_in xs n i x)
+-- the last elements at their place among the first
+moved_in : {R : Type 0} (xs new all : List R) (at : ℕ) → all ≡ xs ++ new → at ≤ length xs → take at all ++ (drop (length all - length new) all ++ slice_range all at (length all - length new)) ≡ take at xs ++ (new ++ drop at xs)
+moved_in xs new all at is le = rw is (same_lists _ _ (search (rules, places)) (λ k d h. grind (arith, places)))
+
+-- what a test of prefixes answers
+pub is_under : (p q : Names) (r : Bool) → Decides r (Under p q) → r ≡ under p q
+is_under p q r d = same_from_decides r (under p q) d (under-says p q)
+
+-- what is written through the slice stays
+pub written : {R : Type 0} (xs ys zs : List R) → ys ≡ zs → length zs ≡ length xs → refill (length xs) xs ys ≡ zs
+written xs ys zs e n = ap (refill (length xs) xs) e ∙ items-with_items (record { items = xs }) zs n
+
+-- a call that is no `Err`
+pub went_well : {T E P Q : Type 0} (r : Result T E) → is_err r ≡ false → IsOk r ↔ Q → OnOk r P → P × Q
+went_well (Ok x) h iff p = (p, iff.0 refl)
+went_well (Err e) h iff p = absurd (true≢false h)
 
 module _ {V : Type 0} where
-  pub place-within : (xs : List (Row V)) (len N : ℕ) → length xs ≡ N → len ≤ N → (rs : List (Row V)) → rs ≡ take len xs → (i : ℕ) → i < length rs → i < N
-  place-within xs len N wide fits rs is i h = let n : length rs ≡ len = ap length is ∙ length-take-le len xs (omega arith) in omega arith
+  same_length : (rs xs : List (Row V)) → rows_of rs ≡ rows_of xs → length rs ≡ length xs
+  same_length rs xs e = sym (length-map rs row_of) ∙ ap length e ∙ length-map xs row_of
+
+  -- the rows that were asked stand for those of the table
+  pub here_in : (rs xs : List (Row V)) → rows_of rs ≡ rows_of xs → (p : Names) (i : ℕ) → Here rs p i → Here xs p i
+  here_in rs xs e p i here = let n = same_length rs xs e in record { value = rw (← e) here.value; within = omega arith; there = rw (← e) here.there }
+
+  pub spliced_in : (rs xs new : List (Row V)) → rows_of rs ≡ rows_of xs → (at : ℕ) → Spliced rs new at → Spliced xs new at
+  spliced_in rs xs new e at place =
+      let n = same_length rs xs e in
+      record {
+        rows = rw (← e) place.rows ∙ placed rs ∙ ap (λ ys. take at ys ++ (rows_of new ++ drop at ys)) e ∙ sym (placed xs);
+        rises = rw (← e) place.rises;
+        within = omega arith;
+      } where
+        placed : (rs : List (Row V)) → rows_of (take at rs ++ (new ++ drop at rs)) ≡ take at (rows_of rs) ++ (rows_of new ++ drop at (rows_of rs))
+        placed rs = simp (map-append, take-map, drop-map)
 
   -- the row at p gets the value v
-  pub listed_set : (xs : List (Row V)) (len : ℕ) (p : Path) (v : V) (i : ℕ) → ascending (rows_of (take len xs)) ≡ true → Here (take len xs) (names p) i → rows_of (take len (set xs i (record { path = p; value = v }))) ≡ replaced (rows_of (take len xs)) (names p) v
-  listed_set xs len p v i up here =
-      ap rows_of (take_set_in xs len i (record { path = p; value = v }))
-      ∙ map-set row_of (take len xs) i (record { path = p; value = v })
-      ∙ ap (λ k. set (rows_of (take len xs)) k (names p, v)) here.value
-      ∙ set_lead (rows_of (take len xs)) up (names p) v here.there
+  pub listed_set : (xs : List (Row V)) (p : Path) (v : V) (i : ℕ) → ascending (rows_of xs) ≡ true → Here xs (names p) i → rows_of (set xs i (record { path = p; value = v })) ≡ replaced (rows_of xs) (names p) v
+  listed_set xs p v i up here =
+      map-set row_of xs i (record { path = p; value = v }) ∙ ap (λ k. set (rows_of xs) k (names p, v)) here.value ∙ set_lead (rows_of xs) up (names p) v here.there
 
-  module _ (xs new : List (Row V)) (len N : ℕ) (wide : length xs ≡ N) (fits : len ≤ N) where
-    length-listed : length (rows_of (take len xs)) ≡ len
-    length-listed = length-map (take len xs) row_of ∙ length-take-le len xs (omega arith)
+  -- the new rows are appended, and then moved to their place
+  module _ (xs new all shown moved : List (Row V)) (at : ℕ) (is : all ≡ xs ++ new) (same : shown ≡ all) (to : moved ≡ take at shown ++ (drop (length shown - length new) shown ++ slice_range shown at (length shown - length new))) (le : at ≤ length xs) where
+    inserted : refill (length all) all moved ≡ take at xs ++ (new ++ drop at xs)
+    inserted = written all moved (take at xs ++ (new ++ drop at xs)) (to ∙ moved_in xs new shown at (same ∙ is) le) (simp (is, length-append, length-take, length-drop) (omega arith))
 
-    pub no_room : N - len < length new → leb (length (rows_of (take len xs)) + length (rows_of new)) N ≡ false
-    no_room h = lt-leb (length (rows_of (take len xs)) + length (rows_of new)) N (omega (arith, length-listed, length-map new row_of))
+    pub length-inserted : length (refill (length all) all moved) ≡ length xs + length new
+    length-inserted = ap length inserted ∙ simp (length-append, length-take, length-drop) (omega arith)
 
-    pub has_room : len + length new ≤ N → leb (length (rows_of (take len xs)) + length (rows_of new)) N ≡ true
-    has_room h = le-leb (length (rows_of (take len xs)) + length (rows_of new)) N (omega (arith, length-listed, length-map new row_of))
+    pub listed_inserted : Spliced xs new at → rows_of (refill (length all) all moved) ≡ spliced (rows_of new) (rows_of xs)
+    listed_inserted place = ap rows_of inserted ∙ sym place.rows
 
-    -- the new rows stand at their place
-    pub listed-opened-rows : (at : ℕ) → len + length new ≤ N → Spliced (take len xs) new at → rows_of (take (len + length new) (opened xs len at new)) ≡ spliced (rows_of new) (rows_of (take len xs))
-    listed-opened-rows at room place =
-        let n = length-take-le len xs (omega arith) in
-        ap rows_of (listed-opened xs len at new (omega (arith, place.within)) (omega arith)) ∙ sym place.rows
+  -- the rows that do not lie under a path
+  abbrev pub is_apart : Names → Row V → Bool
+  is_apart p r = not (under p (names r.path))
 
-  -- the rows that lie apart from a path have closed up
-  pub listed-closed-rows : (xs : List (Row V)) (len N : ℕ) → length xs ≡ N → len ≤ N → (rs : List (Row V)) → rs ≡ take len xs → (p : Names) (from to : ℕ) → from ≤ to → to ≤ length rs → without p (rows_of rs) ≡ rows_of (take from rs ++ drop to rs) → rows_of (take (len - (to - from)) (closed xs len from to)) ≡ without p (rows_of (take len xs))
-  listed-closed-rows xs len N wide fits rs is p from to order within apart =
-      let n : length rs ≡ len = ap length is ∙ length-take-le len xs (omega arith) in
-      ap rows_of (listed-closed xs len from to order (omega arith) (omega arith)) ∙ ap (λ ys. rows_of (take from ys ++ drop to ys)) (sym is) ∙ sym apart ∙ ap (λ ys. without p (rows_of ys)) is
-
-  -- no row lies under the path
-  pub listed_apart : (rs : List (Row V)) (p : Names) (from to : ℕ) → from ≡ to → without p (rows_of rs) ≡ rows_of (take from rs ++ drop to rs) → rows_of rs ≡ without p (rows_of rs)
-  listed_apart rs p from to same apart = sym (apart ∙ ap (λ k. rows_of (take from rs ++ drop k rs)) (sym same) ∙ ap rows_of (take-append-drop from rs))
+  pub listed_apart : {F : Type 0} (p : Names) (R : F → Row V → Bool → F → Row V → Type 0) (f : F) (xs ys : List (Row V)) → RetainsInTurn R f xs ys → ((x : Row V) (b : Bool) (f' : F) (y : Row V) → R f x b f' y → (b ≡ is_apart p x) × (f' ≡ f) × (y ≡ x)) → rows_of ys ≡ without p (rows_of xs)
+  listed_apart p R f xs ys turns says = ap rows_of (filter-from_retain R (is_apart p) f says xs ys turns) ∙ each xs where
+    each : (xs : List (Row V)) → rows_of (filter (is_apart p) xs) ≡ without p (rows_of xs)
+    each [] = refl
+    each (r ∷ xs) = go (is_apart p r) (each xs) where
+      go : (t : Bool) → rows_of (filter (is_apart p) xs) ≡ without p (rows_of xs) → rows_of (cond t (r ∷ filter (is_apart p) xs) (filter (is_apart p) xs)) ≡ cond t (row_of r ∷ without p (rows_of xs)) (without p (rows_of xs))
+      go true e = ap (λ ys. row_of r ∷ ys) e
+      go false e = e

@@ -8,7 +8,7 @@ use Rattle.rows.specs.Positions.{lead}
 
 module _ {V : Type 0} where
   abbrev pub listed : {N : ℕ} → Table V N → List (Names × V)
-  listed t = rows_of (take t.len t.rows)
+  listed t = rows_of t.rows.items
 
   -- the rows with new ones in front of the first that does not come before them
   abbrev pub spliced : List (Names × V) → List (Names × V) → List (Names × V)

@@ -2,10 +2,7 @@
 
 #![tactic(auto)]
 
-mod bound;
-mod placed;
 mod position;
 pub mod row;
-mod shift;
 pub mod sorted;
 pub mod table;

@@ -1,6 +1,7 @@
 // Where looking in path order stops.
 ghost use Rattle.std.specs.Prelude.{◌≡◌, [], ◌∷◌, ◌++◌};
 ghost use Rattle.paths.specs.Paths.{names};
+ghost use Rattle.rows.specs.Maps.{before};
 ghost use Rattle.rows.specs.Positions.{behind, place_of};
 
 use paths::Path;
@@ -28,4 +29,25 @@ impl<'a, 'b> Position<'a, 'b> {
             after: Some(after),
         }
     }
+
+    // Whether a path comes before this position.
+    pub(crate) fn follows(self, path: &Path) -> bool
+        ensures { result ≡ before (names path.now) (place_of self.entry) }
+    {
+        match self.after {
+            None => path < self.path,
+            Some(after) => before_child(path, self.path, after),
+        }
+    }
+}
+
+// Whether a path comes before every child of `parent` whose name is greater than `after`.
+fn before_child(path: &Path, parent: &Path, after: &[u8]) -> bool
+    ensures { result ≡ before (names path.now) (names parent.now ++ behind after.now ∷ []) }
+{
+    if !parent.is_prefix_of(path) {
+        return path < parent;
+    }
+    let depth = parent.depth();
+    path.depth() == depth || path.prefix(depth + 1).last_name() <= after
 }

@@ -5,7 +5,8 @@ ghost use Rattle.rows.specs.Rows.{rows_of};
 
 use crate::row::Row;
 
-pub(crate) mod lookup;
+mod lookup;
+mod ranges;
 
 #[derive(Drop)]
 pub struct Sorted<'a, V> {

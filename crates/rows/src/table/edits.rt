@@ -1,17 +1,21 @@
 // What changes a table.
-ghost use Rattle.std.specs.Prelude.{◌≡◌, false, if◌then◌else◌};
+ghost use Rattle.std.specs.Prelude.{◌≡◌, ◌+◌, ◌-◌, ◌≤◌, false, ◌++◌, length, take, drop, slice_range, if◌then◌else◌};
 ghost use Rattle.paths.specs.Paths.{names};
 ghost use Rattle.rows.specs.Maps.{has, replaced, without};
 ghost use Rattle.rows.specs.Rows.{rows_of};
 ghost use Rattle.rows.specs.Tables.{listed, spliced, splices};
 
-use crate::position::Position;
 use crate::row::Row;
-use crate::shift::{shift_in, shift_out};
-use crate::sorted::lookup::{count_before, locate};
 use crate::table::Table;
-use crate::table::ranges::{end_under, splice_place};
 use paths::Path;
+
+// Moves the last `count` elements to `at`, and those from there on up.
+fn last_to<T>(items: &mut [T], at: usize, count: usize)
+    requires { at + count ≤ length items.old }
+    ensures { items.new ≡ take at items.old ++ (drop (length items.old - count) items.old ++ slice_range items.old at (length items.old - count)) }
+{
+    items[at..].rotate_right(count);
+}
 
 impl<V: Copy, const N: usize> Table<V, N> {
     // Overwrites the value at a path; false, where there is no row.
@@ -20,13 +24,11 @@ impl<V: Copy, const N: usize> Table<V, N> {
         ensures rows { listed self.new ≡ replaced (listed self.old) (names path.now) value }
         ensures same { result ≡ false → self.new ≡ self.old }
     {
-        match locate(self.as_rows(), path) {
-            None => false,
-            Some(i) => {
-                self.rows[i] = Row { path: *path, value };
-                true
-            }
-        }
+        let Some(i) = self.sorted().locate(path) else {
+            return false;
+        };
+        self.rows.as_mut_slice()[i] = Row { path: *path, value };
+        true
     }
 
     // Puts rows in front of the first row that does not come before them; false, where there is no
@@ -36,30 +38,20 @@ impl<V: Copy, const N: usize> Table<V, N> {
         ensures rows { listed self.new ≡ (if result then spliced (rows_of new.now) (listed self.old) else listed self.old) }
         ensures same { result ≡ false → self.new ≡ self.old }
     {
-        if new.len() > N - self.len {
+        let Some(at) = self.sorted().splice_place(new) else {
+            return false;
+        };
+        if self.rows.try_extend_from_slice(new).is_err() {
             return false;
         }
-        match splice_place(self.as_rows(), new) {
-            None => false,
-            Some(at) => {
-                shift_in(&mut self.rows, self.len, at, new);
-                self.len += new.len();
-                true
-            }
-        }
+        last_to(self.rows.as_mut_slice(), at, new.len());
+        true
     }
 
     // Takes out the row at a path and those below it.
     pub fn remove_under(&mut self, path: &Path)
         ensures { listed self.new ≡ without (names path.now) (listed self.old) }
     {
-        let rows = self.as_rows();
-        let from = count_before(rows, Position::at(path));
-        let to = end_under(rows, from, path);
-        if from == to {
-            return;
-        }
-        shift_out(&mut self.rows, self.len, from, to);
-        self.len -= to - from;
+        self.rows.retain(|row| !path.is_prefix_of(&row.path));
     }
 }

@@ -1,5 +1,5 @@
 // What a table holds.
-ghost use Rattle.std.specs.Prelude.{◌≡◌, [], take};
+ghost use Rattle.std.specs.Prelude.{◌≡◌, []};
 ghost use Rattle.std.specs.Option.{option_map};
 ghost use Rattle.paths.specs.Paths.{names};
 ghost use Rattle.rows.specs.Maps.{at};
@@ -10,6 +10,7 @@ ghost use Rattle.rows.specs.Tables.{listed};
 use crate::row::Row;
 use crate::sorted::Sorted;
 use crate::table::Table;
+use arrayvec::ArrayVec;
 use paths::Path;
 
 impl<V, const N: usize> Table<V, N> {
@@ -24,18 +25,16 @@ impl<V, const N: usize> Table<V, N> {
             value: blank,
         };
         Table {
-            rows: [row; N],
-            len: 0,
+            rows: ArrayVec::new_in(row),
         }
     }
 
     // The rows.
     pub fn as_rows(&self) -> &[Row<V>]
-        ensures rows { result.now ≡ take self.now.len self.now.rows }
+        ensures rows { result.now ≡ self.now.rows.items }
         ensures listed { rows_of result.now ≡ listed self.now }
     {
-        let all = &self.rows[..];
-        &all[0..self.len]
+        self.rows.as_slice()
     }
 
     // The rows, to be asked.

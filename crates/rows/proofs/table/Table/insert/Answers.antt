@@ -1,54 +1,41 @@
 -- The table with the new rows among its own.
-use Rattle.std.proofs.Common.{◌+◌, ◌≤◌, leb, length, take, sym, refl, ap, ◌∙◌, subst, arith}
-use Rattle.std.proofs.lemmas.Bool.{true≢false, and_from, and_left, and_right}
+use Rattle.std.proofs.Common.{◌+◌, ◌≤◌, leb, length, sym, ap, ◌∙◌, arith}
+use Rattle.std.proofs.lemmas.Bool.{and_from, le-leb}
+use Rattle.std.proofs.lemmas.List.{length-map}
 use Rattle.rows.specs.Maps.{ascending}
-use Rattle.rows.specs.Rows.{rows_of}
-use Rattle.rows.specs.Tables.{listed, spliced, Spliced}
-use Rattle.rows.proofs.Tables.{listed-opened-rows, no_room, has_room}
+use Rattle.rows.specs.Rows.{row_of, rows_of}
+use Rattle.rows.specs.Tables.{spliced}
+use Rattle.rows.proofs.Tables.{went_well, spliced_in, length-inserted, listed_inserted}
 use Rattle.rows.proofs.table.Table.insert.Goals as goal
 
-pub returns-then-new-self : goal.returns-then-new-self
-returns-then-new-self g c =
-    let t = c.args.self.now in
+pub invariant_of-self-2 : goal.invariant_of-self-2
+invariant_of-self-2 g c =
+    let xs = c.args.self.now.rows.items in
     let ns = c.args.new.now in
-    let over = no_room t.rows ns t.len g.row.N t.wide t.fits c.if-new-self.true in
+    let all = c.try_extend_from_slice.new.self.items in
+    let shown = c.as_mut_slice.result.now in
+    let place = spliced_in c.sorted.result.rows.now xs ns c.sorted.ensures c.in-Some.at c.in-Some.ensures in
+    let well = went_well c.try_extend_from_slice.result (sym c.is_err.ensures.value ∙ c.if-is_err.false) c.try_extend_from_slice.ensures.variant c.try_extend_from_slice.ensures.ok in
+    let room : length xs + length ns ≤ g.row.N = well.1 in
     record {
-      answer = sym (and_left (leb (length (listed t) + length (rows_of ns)) g.row.N) (ascending (spliced (rows_of ns) (listed t))) over);
-      rows = refl;
-      same = λ _. refl;
+      fits = omega (arith, room, length-inserted xs ns all shown c.last_to.new.items c.in-Some.at well.0 c.as_mut_slice.ensures.value c.last_to.ensures place.within);
+      rises = ap ascending (listed_inserted xs ns all shown c.last_to.new.items c.in-Some.at well.0 c.as_mut_slice.ensures.value c.last_to.ensures place.within place) ∙ place.rises;
     }
 
-pub returns-in-None : goal.returns-in-None
-returns-in-None g c =
-    let t = c.args.self.now in
+pub returns-clause-answer : goal.returns-clause-answer
+returns-clause-answer g c =
+    let xs = c.args.self.now.rows.items in
     let ns = c.args.new.now in
-    let off = sym (ap (λ rs. ascending (spliced (rows_of ns) rs)) c.as_rows.ensures.listed) ∙ c.in-None.ensures in
-    record {
-      answer = sym (and_right (leb (length (listed t) + length (rows_of ns)) g.row.N) (ascending (spliced (rows_of ns) (listed t))) off);
-      rows = refl;
-      same = λ _. refl;
-    }
+    let well = went_well c.try_extend_from_slice.result (sym c.is_err.ensures.value ∙ c.if-is_err.false) c.try_extend_from_slice.ensures.variant c.try_extend_from_slice.ensures.ok in
+    let place = spliced_in c.sorted.result.rows.now xs ns c.sorted.ensures c.in-Some.at c.in-Some.ensures in
+    let room : length xs + length ns ≤ g.row.N = well.1 in
+    sym (and_from (leb (length (rows_of xs) + length (rows_of ns)) g.row.N) (ascending (spliced (rows_of ns) (rows_of xs))) (le-leb _ _ (omega (arith, room, length-map xs row_of, length-map ns row_of))) place.rises)
 
-pub invariant_of-self : goal.invariant_of-self
-invariant_of-self g c =
-    let t = c.args.self.now in
+pub returns-clause-rows : goal.returns-clause-rows
+returns-clause-rows g c =
+    let xs = c.args.self.now.rows.items in
     let ns = c.args.new.now in
-    let fits : t.len ≤ g.row.N = t.fits in
-    let place = subst (λ rs. Spliced rs ns c.in-Some.at) c.as_rows.ensures.rows c.in-Some.ensures in
-    let room : t.len + length ns ≤ g.row.N = omega (arith, c.if-new-self.false) in
-    let e = listed-opened-rows t.rows ns t.len g.row.N t.wide t.fits c.in-Some.at room place in
-    record { wide = c.shift_in.ensures.wide; fits = room; rises = ap (λ xs. ascending (rows_of (take (t.len + length ns) xs))) c.shift_in.ensures.rows ∙ ap ascending e ∙ place.rises }
-
-pub returns-in-Some : goal.returns-in-Some
-returns-in-Some g c =
-    let t = c.args.self.now in
-    let ns = c.args.new.now in
-    let fits : t.len ≤ g.row.N = t.fits in
-    let place = subst (λ rs. Spliced rs ns c.in-Some.at) c.as_rows.ensures.rows c.in-Some.ensures in
-    let room : t.len + length ns ≤ g.row.N = omega (arith, c.if-new-self.false) in
-    let e = listed-opened-rows t.rows ns t.len g.row.N t.wide t.fits c.in-Some.at room place in
-    record {
-      answer = sym (and_from (leb (length (listed t) + length (rows_of ns)) g.row.N) (ascending (spliced (rows_of ns) (listed t))) (has_room t.rows ns t.len g.row.N t.wide t.fits room) place.rises);
-      rows = ap (λ xs. rows_of (take (t.len + length ns) xs)) c.shift_in.ensures.rows ∙ e;
-      same = λ no. absurd (true≢false no);
-    }
+    let all = c.try_extend_from_slice.new.self.items in
+    let place = spliced_in c.sorted.result.rows.now xs ns c.sorted.ensures c.in-Some.at c.in-Some.ensures in
+    let well = went_well c.try_extend_from_slice.result (sym c.is_err.ensures.value ∙ c.if-is_err.false) c.try_extend_from_slice.ensures.variant c.try_extend_from_slice.ensures.ok in
+    listed_inserted xs ns all c.as_mut_slice.result.now c.last_to.new.items c.in-Some.at well.0 c.as_mut_slice.ensures.value c.last_to.ensures place.within place

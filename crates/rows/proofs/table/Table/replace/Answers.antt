@@ -1,54 +1,36 @@
 -- The row that was found gets the value.
-use Rattle.std.proofs.Common.{is_some, sym, refl, ap, ◌∙◌, subst, arith}
+use Rattle.std.proofs.Common.{◌≤◌, length, set, sym, ap, ◌∙◌, arith}
 use Rattle.std.proofs.lemmas.List.{length-set}
-use Rattle.std.proofs.lemmas.Bool.{true≢false}
 use Rattle.paths.specs.Paths.{names}
 use Rattle.rows.specs.Maps.{at, ascending}
-use Rattle.rows.specs.Positions.{Here}
+use Rattle.rows.specs.Rows.{rows_of}
 use Rattle.rows.specs.Tables.{listed}
 use Rattle.rows.proofs.Changed.{ascending-replaced, replaced-none}
-use Rattle.rows.proofs.Tables.{place-within, listed_set}
+use Rattle.rows.proofs.Tables.{here_in, written, listed_set}
 use Rattle.rows.proofs.table.Table.replace.Goals as goal
 
-pub locate-requires : goal.locate-requires
-locate-requires g c = ap ascending c.as_rows.ensures.listed ∙ c.args.self.now.rises
+pub returns-in_default-clause-rows : goal.returns-in_default-clause-rows
+returns-in_default-clause-rows g c =
+    let p = names c.args.path.now in
+    sym (replaced-none p c.args.value (listed c.args.self.now) (sym (ap (λ rs. at rs p) c.sorted.ensures) ∙ c.in_default.ensures))
 
-pub offset_bounds-self-i : goal.offset_bounds-self-i
-offset_bounds-self-i g c =
-    let t = c.args.self.now in
-    let h = place-within t.rows t.len g.row.N t.wide t.fits c.as_rows.result.now c.as_rows.ensures.rows c.in-Some.i c.in-Some.ensures.within in
-    omega arith
-
-pub bounds-self-i : goal.bounds-self-i
-bounds-self-i g c =
-    let t = c.args.self.now in
-    place-within t.rows t.len g.row.N t.wide t.fits c.as_rows.result.now c.as_rows.ensures.rows c.in-Some.i c.in-Some.ensures.within
+pub bounds-as_mut_slice-i : goal.bounds-as_mut_slice-i
+bounds-as_mut_slice-i g c =
+    let here = here_in c.sorted.result.rows.now c.args.self.now.rows.items c.sorted.ensures (names c.args.path.now) c.in-Some.i c.in-Some.ensures in
+    omega (arith, here.within, ap length c.as_mut_slice.ensures.value)
 
 pub invariant_of-self : goal.invariant_of-self
 invariant_of-self g c =
     let t = c.args.self.now in
     let p = names c.args.path.now in
-    let here = subst (λ rs. Here rs p c.in-Some.i) c.as_rows.ensures.rows c.in-Some.ensures in
-    let e = listed_set t.rows t.len c.args.path.now c.args.value c.in-Some.i t.rises here in
-    record { wide = length-set t.rows c.in-Some.i (record { path = c.args.path.now; value = c.args.value }) ∙ t.wide; fits = t.fits; rises = ap ascending e ∙ ascending-replaced p c.args.value (listed t) ∙ t.rises }
+    let here = here_in c.sorted.result.rows.now t.rows.items c.sorted.ensures p c.in-Some.i c.in-Some.ensures in
+    let fits : length t.rows.items ≤ g.row.N = t.fits in
+    let e = written t.rows.items (set c.as_mut_slice.result.now c.in-Some.i (record { path = c.args.path.now; value = c.args.value })) (set t.rows.items c.in-Some.i (record { path = c.args.path.now; value = c.args.value })) (ap (λ xs. set xs c.in-Some.i (record { path = c.args.path.now; value = c.args.value })) c.as_mut_slice.ensures.value) (length-set t.rows.items c.in-Some.i (record { path = c.args.path.now; value = c.args.value })) in
+    record { fits = omega (arith, fits, ap length e, length-set t.rows.items c.in-Some.i (record { path = c.args.path.now; value = c.args.value })); rises = ap (λ xs. ascending (rows_of xs)) e ∙ ap ascending (listed_set t.rows.items c.args.path.now c.args.value c.in-Some.i t.rises here) ∙ ascending-replaced p c.args.value (listed t) ∙ t.rises }
 
-pub returns-in-None : goal.returns-in-None
-returns-in-None g c =
-    let p = names c.args.path.now in
-    let e = sym (ap (λ rs. at rs p) c.as_rows.ensures.listed) ∙ c.in-None.ensures in
-    record {
-      answer = sym (ap is_some e);
-      rows = sym (replaced-none p c.args.value (listed c.args.self.now) e);
-      same = λ _. refl;
-    }
-
-pub returns-in-Some : goal.returns-in-Some
-returns-in-Some g c =
+pub returns-clause-rows : goal.returns-clause-rows
+returns-clause-rows g c =
     let t = c.args.self.now in
     let p = names c.args.path.now in
-    let here = subst (λ rs. Here rs p c.in-Some.i) c.as_rows.ensures.rows c.in-Some.ensures in
-    record {
-      answer = sym here.there;
-      rows = listed_set t.rows t.len c.args.path.now c.args.value c.in-Some.i t.rises here;
-      same = λ e. absurd (true≢false e);
-    }
+    let here = here_in c.sorted.result.rows.now t.rows.items c.sorted.ensures p c.in-Some.i c.in-Some.ensures in
+    ap rows_of (written t.rows.items (set c.as_mut_slice.result.now c.in-Some.i (record { path = c.args.path.now; value = c.args.value })) (set t.rows.items c.in-Some.i (record { path = c.args.path.now; value = c.args.value })) (ap (λ xs. set xs c.in-Some.i (record { path = c.args.path.now; value = c.args.value })) c.as_mut_slice.ensures.value) (length-set t.rows.items c.in-Some.i (record { path = c.args.path.now; value = c.args.value }))) ∙ listed_set t.rows.items c.args.path.now c.args.value c.in-Some.i t.rises here
