@@ -15,7 +15,7 @@ write-requires g c =
     let m = marks_in s in
     let e = rows_below g.T.Tree.entries s in
     let p = names c.args.path.now in
-    let n = sym (c.in-Some.ensures ∙ ap (λ z. new_mark c.args.action z c.seen_entry-entry.result) c.mark-mark.ensures ∙ ap (new_mark c.args.action (at m p)) c.seen_entry-entry.ensures) in
+    let n = sym (c.in-Some.ensures ∙ ap (λ z. new_mark c.args.action z c.entry.result) c.mark.ensures ∙ ap (new_mark c.args.action (at m p)) c.entry.ensures) in
     let w = applied_some m e s.layer.grown (g.T.Tree.entries s.lower).ok p (few-rows s.layer) c.requires.good c.args.action c.requires.granted c.in-Some.mark n in
     record { dirs = w.dirs; room = w.room; grows = w.grows }
 
@@ -25,7 +25,7 @@ take_out-requires g c =
     let m = marks_in s in
     let e = rows_below g.T.Tree.entries s in
     let p = names c.args.path.now in
-    let n = sym (c.in-None.ensures ∙ ap (λ z. new_mark c.args.action z c.seen_entry-entry.result) c.mark-mark.ensures ∙ ap (new_mark c.args.action (at m p)) c.seen_entry-entry.ensures) in
+    let n = sym (c.in-None.ensures ∙ ap (λ z. new_mark c.args.action z c.entry.result) c.mark.ensures ∙ ap (new_mark c.args.action (at m p)) c.entry.ensures) in
     let r = applied_none m e s.layer.grown (g.T.Tree.entries s.lower).ok p (few-rows s.layer) c.requires.good c.args.action c.requires.granted n in
     record { good = c.requires.good; granted = subst (λ a. refused_at (merged m e) (room_of m) (lacks m p) p a ≡ None) r c.requires.granted }
 
@@ -35,7 +35,7 @@ returns-in-Some g c =
     let m = marks_in s in
     let e = rows_below g.T.Tree.entries s in
     let p = names c.args.path.now in
-    let n = sym (c.in-Some.ensures ∙ ap (λ z. new_mark c.args.action z c.seen_entry-entry.result) c.mark-mark.ensures ∙ ap (new_mark c.args.action (at m p)) c.seen_entry-entry.ensures) in
+    let n = sym (c.in-Some.ensures ∙ ap (λ z. new_mark c.args.action z c.entry.result) c.mark.ensures ∙ ap (new_mark c.args.action (at m p)) c.entry.ensures) in
     let w = applied_some m e s.layer.grown (g.T.Tree.entries s.lower).ok p (few-rows s.layer) c.requires.good c.args.action c.requires.granted c.in-Some.mark n in
     record { marks = c.write.ensures.marks ∙ w.is; lower = c.write.ensures.lower }
 
@@ -45,6 +45,6 @@ returns-in-None g c =
     let m = marks_in s in
     let e = rows_below g.T.Tree.entries s in
     let p = names c.args.path.now in
-    let n = sym (c.in-None.ensures ∙ ap (λ z. new_mark c.args.action z c.seen_entry-entry.result) c.mark-mark.ensures ∙ ap (new_mark c.args.action (at m p)) c.seen_entry-entry.ensures) in
+    let n = sym (c.in-None.ensures ∙ ap (λ z. new_mark c.args.action z c.entry.result) c.mark.ensures ∙ ap (new_mark c.args.action (at m p)) c.entry.ensures) in
     let r = applied_none m e s.layer.grown (g.T.Tree.entries s.lower).ok p (few-rows s.layer) c.requires.good c.args.action c.requires.granted n in
     record { marks = c.take_out.ensures.marks ∙ sym (ap (marked m e p) r); lower = c.take_out.ensures.lower }
