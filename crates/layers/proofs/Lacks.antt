@@ -1,5 +1,6 @@
 -- What a chain over the numbers of names says of a path's prefixes. Assumes nothing.
 use Rattle.std.proofs.Common.{◌≡◌, ℕ, zero, suc, ◌+◌, Bool, true, false, cond, not, ◌||◌, List, [], ◌∷◌, length, take, drop, Option, sym, refl, ap, ◌∙◌, add-one, arith}
+use Rattle.std.proofs.Math.Bool.{or_assoc, or-false}
 use Rattle.std.proofs.lemmas.List.{drop_all}
 use Rattle.std.specs.List.{list_any, filter, range_with_len}
 use Rattle.paths.specs.Names.{prefixes}
@@ -10,23 +11,15 @@ use Rattle.marks.specs.declared.mark.Mark.{Mark}
 use Rattle.marks.specs.Marks.{MarkRow, below, some_above}
 use Rattle.marks.specs.Edits.{lacking, lacks}
 
-or_false : (b : Bool) → (b || false) ≡ b
-or_false true = refl
-or_false false = refl
-
-or_assoc : (a b c : Bool) → (a || (b || c)) ≡ ((a || b) || c)
-or_assoc true b c = refl
-or_assoc false b c = refl
-
 later : (f : ℕ → Bool) (a n : ℕ) → list_any f (range_with_len (a + 1) n) ≡ list_any (λ k. f (suc k)) (range_with_len a n)
 later f a zero = refl
 later f a (suc n) = ap (λ z. f z || list_any f (range_with_len (a + 1 + 1) n)) (add-one a) ∙ ap (λ z. f (suc a) || z) (later f (a + 1) n)
 
 any_from : {N : Type 0} (t : Option Mark → Bool) (p : List N) (b : Bool) (m : List N → Option Mark) → (b || list_any (λ k. t (m (take k p))) (range_with_len 0 (length p))) ≡ some_above t b m p
-any_from t [] b m = or_false b
+any_from t [] b m = or-false b
 any_from t (n ∷ p) b m =
     ap (λ z. b || (t (m []) || z)) (later (λ k. t (m (take k (n ∷ p)))) 0 (length p))
-    ∙ or_assoc b (t (m [])) (list_any (λ k. t (m (n ∷ take k p))) (range_with_len 0 (length p)))
+    ∙ sym (or_assoc b (t (m [])) (list_any (λ k. t (m (n ∷ take k p))) (range_with_len 0 (length p))))
     ∙ any_from t p (b || t (m [])) (below m n)
 
 pub any_above : {N : Type 0} (t : Option Mark → Bool) (m : List N → Option Mark) (p : List N) → list_any (λ k. t (m (take k p))) (range_with_len 0 (length p)) ≡ some_above t false m p

@@ -1,7 +1,6 @@
 // Edits of a session: checked by what is seen, and made on the marks.
 ghost use Rattle.std.specs.Prelude.{◌≡◌, ◌+◌, ◌≤◌, true, false, length, is_ok};
 ghost use Rattle.paths.specs.Paths.{names};
-ghost use Rattle.trees.specs.Entries.{fine};
 ghost use Rattle.edits.specs.Edits.{refused_at, answered, Outcome};
 ghost use Rattle.marks.specs.Marks.{layered};
 ghost use Rattle.marks.specs.Laws.{Granted};
@@ -40,8 +39,7 @@ impl<T: Tree> Session<T> {
     // Drops the rows at the path and below it. Where the tree below would be seen again, a whiteout
     // hides it.
     fn take_out(&mut self, path: &Path)
-        requires good { fine (names path.now) ≡ true }
-        requires granted { Granted (marks_in self.old) (rows_below T.Tree.entries self.old) (room_of (marks_in self.old)) (names path.now) Remove }
+        requires { Granted (marks_in self.old) (rows_below T.Tree.entries self.old) (room_of (marks_in self.old)) (names path.now) Remove }
         ensures marks { marks_in self.new ≡ removed (marks_in self.old) (rows_below T.Tree.entries self.old) (names path.now) }
         ensures lower { self.new.lower ≡ self.old.lower }
     {
@@ -61,8 +59,7 @@ impl<T: Tree> Session<T> {
 
     // Makes an edit that is granted.
     fn apply(&mut self, path: &Path, action: Action)
-        requires good { fine (names path.now) ≡ true }
-        requires granted { Granted (marks_in self.old) (rows_below T.Tree.entries self.old) (room_of (marks_in self.old)) (names path.now) action }
+        requires { Granted (marks_in self.old) (rows_below T.Tree.entries self.old) (room_of (marks_in self.old)) (names path.now) action }
         ensures marks { marks_in self.new ≡ marked (marks_in self.old) (rows_below T.Tree.entries self.old) (names path.now) action }
         ensures lower { self.new.lower ≡ self.old.lower }
     {
