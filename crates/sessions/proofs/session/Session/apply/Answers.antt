@@ -28,22 +28,22 @@ take_out-requires g c =
     let r = applied_none m e s.layer.grown (g.T.Tree.entries s.lower).ok p (few-rows s.layer) (path_fine c.args.path.now) c.args.action c.requires n in
     subst (Granted m e (room_of m) p) r c.requires
 
-pub returns-in-Some : goal.returns-in-Some
-returns-in-Some g c =
+pub returns-in-Some-clause-marks : goal.returns-in-Some-clause-marks
+returns-in-Some-clause-marks g c =
     let s = c.args.self.now in
     let m = marks_in s in
     let e = rows_below g.T.Tree.entries s in
     let p = names c.args.path.now in
     let n = mark_is c.args.action m e p (Some c.in-Some.mark) c.mark.result c.entry.result c.in-Some.ensures c.mark.ensures c.entry.ensures in
     let w = applied_some m e s.layer.grown (g.T.Tree.entries s.lower).ok p (few-rows s.layer) (path_fine c.args.path.now) c.args.action c.requires c.in-Some.mark n in
-    record { marks = c.write.ensures.marks ∙ w.is; lower = c.write.ensures.lower }
+    c.write.ensures.marks ∙ w.is
 
-pub returns-in-None : goal.returns-in-None
-returns-in-None g c =
+pub returns-in-None-clause-marks : goal.returns-in-None-clause-marks
+returns-in-None-clause-marks g c =
     let s = c.args.self.now in
     let m = marks_in s in
     let e = rows_below g.T.Tree.entries s in
     let p = names c.args.path.now in
     let n = mark_is c.args.action m e p None c.mark.result c.entry.result c.in-None.ensures c.mark.ensures c.entry.ensures in
     let r = applied_none m e s.layer.grown (g.T.Tree.entries s.lower).ok p (few-rows s.layer) (path_fine c.args.path.now) c.args.action c.requires n in
-    record { marks = c.take_out.ensures.marks ∙ sym (ap (marked m e p) r); lower = c.take_out.ensures.lower }
+    c.take_out.ensures.marks ∙ sym (ap (marked m e p) r)

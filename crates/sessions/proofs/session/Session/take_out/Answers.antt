@@ -1,4 +1,4 @@
-use Rattle.std.proofs.Common.{sym, refl, ◌∙◌}
+use Rattle.std.proofs.Common.{sym, ◌∙◌}
 use Rattle.paths.specs.Paths.{names}
 use Rattle.rows.specs.Tables.{listed}
 use Rattle.edits.proofs.Belows.{path_fine}
@@ -20,14 +20,14 @@ write-requires g c =
     let h = sym c.if-shows.ensures in
     record { dirs = t.dirs; room = t.room h; grows = t.grows h }
 
-pub returns-then-shows : goal.returns-then-shows
-returns-then-shows g c =
+pub returns-then-shows-clause-marks : goal.returns-then-shows-clause-marks
+returns-then-shows-clause-marks g c =
     let s = c.args.self.now in
     let t = taken (marks_in s) (rows_below g.T.Tree.entries s) s.layer.grown (g.T.Tree.entries s.lower).ok (names c.args.path.now) (few-rows s.layer) (path_fine c.args.path.now) c.requires (listed c.remove_under.new.self) c.remove_under.ensures in
-    record { marks = c.write.ensures.marks ∙ t.shown (sym c.if-shows.ensures); lower = c.write.ensures.lower }
+    c.write.ensures.marks ∙ t.shown (sym c.if-shows.ensures)
 
-pub returns-else-shows : goal.returns-else-shows
-returns-else-shows g c =
+pub returns-else-shows-clause-marks : goal.returns-else-shows-clause-marks
+returns-else-shows-clause-marks g c =
     let s = c.args.self.now in
     let t = taken (marks_in s) (rows_below g.T.Tree.entries s) s.layer.grown (g.T.Tree.entries s.lower).ok (names c.args.path.now) (few-rows s.layer) (path_fine c.args.path.now) c.requires (listed c.remove_under.new.self) c.remove_under.ensures in
-    record { marks = t.hidden (sym c.if-shows.ensures); lower = refl }
+    t.hidden (sym c.if-shows.ensures)

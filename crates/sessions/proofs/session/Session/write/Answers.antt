@@ -1,4 +1,4 @@
-use Rattle.std.proofs.Common.{refl, ap, ◌∙◌}
+use Rattle.std.proofs.Common.{ap, ◌∙◌}
 use Rattle.paths.specs.Paths.{names}
 use Rattle.rows.specs.Tables.{listed}
 use Rattle.marks.specs.Marks.{layered}
@@ -12,10 +12,7 @@ invariant_of-self g c =
     let e = put_done c.args.mark (marks_in s) (rows_below g.T.Tree.entries s) (names c.args.path.now) s.layer.grown c.requires.dirs c.requires.room _ (listed c.put_rows.new.rows) (c.as_rows.ensures.listed ∙ c.fresh_rows-new.ensures) c.put_rows.ensures in
     record { grown = ap layered e ∙ c.requires.grows }
 
-pub returns : goal.returns
-returns g c =
+pub returns-clause-marks : goal.returns-clause-marks
+returns-clause-marks g c =
     let s = c.args.self.now in
-    record {
-      marks = put_done c.args.mark (marks_in s) (rows_below g.T.Tree.entries s) (names c.args.path.now) s.layer.grown c.requires.dirs c.requires.room _ (listed c.put_rows.new.rows) (c.as_rows.ensures.listed ∙ c.fresh_rows-new.ensures) c.put_rows.ensures;
-      lower = refl;
-    }
+    put_done c.args.mark (marks_in s) (rows_below g.T.Tree.entries s) (names c.args.path.now) s.layer.grown c.requires.dirs c.requires.room _ (listed c.put_rows.new.rows) (c.as_rows.ensures.listed ∙ c.fresh_rows-new.ensures) c.put_rows.ensures
