@@ -51,7 +51,8 @@ impl Layer {
         self.mark(&path.prefix(k))
     }
 
-    // Whether a proper prefix of the path is a whiteout, a file or opaque.
+    // Whether a proper prefix of the path is a whiteout, a file or opaque. One method for this and the
+    // next, with the test as a closure, is no plainer: its inner closure needs clauses of its own.
     pub fn cuts(&self, path: &Path) -> bool
         ensures { result ≡ cut (at (marks_of self.now)) (names path.now) }
     {
