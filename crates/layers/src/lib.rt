@@ -2,7 +2,6 @@
 
 #![tactic(auto)]
 
-pub mod choosing;
 pub mod layer;
 pub mod marking;
 pub mod writing;

@@ -1,9 +1,9 @@
 // What a layer says of a path.
-ghost use Rattle.std.specs.Prelude.{◌≡◌, ◌≤◌, false, ◌||◌, [], length, is_some, if◌then◌else◌};
+ghost use Rattle.std.specs.Prelude.{◌≡◌, ◌≤◌, false, [], length, take};
 ghost use Rattle.std.specs.Option.{option_map};
 ghost use Rattle.paths.specs.Paths.{names};
 ghost use Rattle.rows.specs.Maps.{at, child_path};
-ghost use Rattle.marks.specs.Marks.{stops, is_opaque, some_above, cut};
+ghost use Rattle.marks.specs.Marks.{is_opaque, some_above, cut};
 ghost use Rattle.marks.specs.Edits.{lacks};
 ghost use Rattle.layers.specs.Layers.{marks_of};
 
@@ -11,45 +11,6 @@ use crate::layer::Layer;
 use marks::mark::Mark;
 use paths::Path;
 use rows::table::Table;
-
-// Whether nothing below is seen under a mark.
-pub fn is_cut(mark: Option<Mark>) -> bool
-    ensures { result ≡ stops mark }
-{
-    match mark {
-        Some(mark) => mark.is_cut(),
-        None => false,
-    }
-}
-
-fn is_opaque(mark: Option<Mark>) -> bool
-    ensures { result ≡ is_opaque mark }
-{
-    match mark {
-        Some(mark) => match mark {
-            Mark::Opaque(_) => true,
-            _ => false,
-        },
-        None => false,
-    }
-}
-
-fn either(a: bool, b: bool) -> bool
-    ensures { result ≡ (a || b) }
-{
-    a || b
-}
-
-// One, where there is no mark.
-fn absent(mark: Option<Mark>) -> usize
-    ensures value { result ≡ (if is_some mark then 0 else 1) }
-    ensures bound { result ≤ 1 }
-{
-    match mark {
-        Some(_) => 0,
-        None => 1,
-    }
-}
 
 impl Layer {
     // A layer without rows.
@@ -73,10 +34,7 @@ impl Layer {
     pub fn mark(&self, path: &Path) -> Option<Mark>
         ensures { result ≡ at (marks_of self.now) (names path.now) }
     {
-        match self.rows.find(path) {
-            Some(mark) => Some(*mark),
-            None => None,
-        }
+        self.rows.find(path).copied()
     }
 
     // The row of a child of `path` whose name is the least above `after`.
@@ -86,33 +44,26 @@ impl Layer {
         self.rows.sorted().child_after(path, after)
     }
 
-    // Whether a proper prefix of the path stops what lies below, and whether one is opaque.
-    fn above(&self, path: &Path) -> (bool, bool)
-        ensures cut { result.0 ≡ cut (at (marks_of self.now)) (names path.now) }
-        ensures opaque { result.1 ≡ some_above is_opaque false (at (marks_of self.now)) (names path.now) }
+    // The mark at the prefix of `k` names.
+    fn prefix_mark(&self, path: &Path, k: usize) -> Option<Mark>
+        ensures { result ≡ at (marks_of self.now) (take k (names path.now)) }
     {
-        let mut cut = false;
-        let mut opaque = false;
-        for k in 0..path.depth() {
-            let mark = self.mark(&path.prefix(k));
-            cut = either(cut, is_cut(mark));
-            opaque = either(opaque, is_opaque(mark));
-        }
-        (cut, opaque)
+        self.mark(&path.prefix(k))
     }
 
-    // Whether a proper prefix of the path is a whiteout, a file or opaque.
+    // Whether a proper prefix of the path is a whiteout, a file or opaque. One method for this and the
+    // next, with the test as a closure, is no plainer: its inner closure needs clauses of its own.
     pub fn cuts(&self, path: &Path) -> bool
         ensures { result ≡ cut (at (marks_of self.now)) (names path.now) }
     {
-        self.above(path).0
+        (0..path.depth()).any(|k| self.prefix_mark(path, k).is_some_and(Mark::is_cut))
     }
 
     // Whether a proper prefix of the path is opaque.
     pub fn hides(&self, path: &Path) -> bool
         ensures { result ≡ some_above is_opaque false (at (marks_of self.now)) (names path.now) }
     {
-        self.above(path).1
+        (0..path.depth()).any(|k| self.prefix_mark(path, k).is_some_and(Mark::is_opaque))
     }
 
     // How many prefixes of the path have no row.
@@ -120,10 +71,8 @@ impl Layer {
         ensures value { result ≡ lacks (marks_of self.now) (names path.now) }
         ensures bound { result ≤ 9 }
     {
-        let mut lacking = 0;
-        for k in 0..path.depth() + 1 {
-            lacking += absent(self.mark(&path.prefix(k)));
-        }
-        lacking
+        (0..path.depth() + 1)
+            .filter(|k| self.prefix_mark(path, *k).is_none())
+            .count()
     }
 }

@@ -1,14 +1,11 @@
 -- What the proper prefixes of a path say of it. Assumes nothing.
 use Rattle.std.proofs.Common.{◌≡◌, ℕ, ◌+◌, ◌<◌, Bool, true, false, ◌||◌, ◌⊎◌, List, [], ◌∷◌, ◌++◌, length, get_or, take, Some, None, Option, sym, refl, ap, ◌∙◌, inl, inr, ⊎_elim, arith}
+use Rattle.std.proofs.Math.Bool.{or-true}
 use Rattle.std.proofs.lemmas.List.{take_more}
 use Rattle.std.proofs.lemmas.Bool.{true≢false, or_cases}
 use Rattle.marks.specs.declared.mark.Mark.{Mark}
 use Rattle.marks.specs.declared.mark.Mark.TheVariants.{Whiteout, File, Dir, Opaque}
 use Rattle.marks.specs.Marks.{stops, is_opaque, below, some_above, cut}
-
-or_on : (b : Bool) → (b || true) ≡ true
-or_on true = refl
-or_on false = refl
 
 module _ {N : Type 0} (t : Option Mark → Bool) where
   -- one name more: the path without it, and its mark
@@ -29,7 +26,7 @@ module _ {N : Type 0} (t : Option Mark → Bool) where
 
   -- a proper prefix that passes
   pub above_at : (q : List N) (n : N) (r : List N) (b : Bool) (m : List N → Option Mark) → t (m q) ≡ true → some_above t b m (q ++ n ∷ r) ≡ true
-  above_at [] n r b m s = ap (λ c. some_above t (b || c) (below m n) r) s ∙ (ap (λ c. some_above t c (below m n) r) (or_on b) ∙ above_on r (below m n))
+  above_at [] n r b m s = ap (λ c. some_above t (b || c) (below m n) r) s ∙ (ap (λ c. some_above t c (below m n) r) (or-true b) ∙ above_on r (below m n))
   above_at (k ∷ q) n r b m s = above_at q n r (b || t (m [])) (below m k) s
 
   abbrev pub Passed : (List N → Option Mark) → List N → Type 0

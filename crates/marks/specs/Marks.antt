@@ -20,6 +20,11 @@ entry_of (File f) = Some (entry.File f)
 entry_of (Dir d) = Some (entry.Dir d)
 entry_of (Opaque d) = Some (entry.Dir d)
 
+-- the mark that sets an entry, and hides nothing below it
+abbrev pub mark_of : Entry → Mark
+mark_of (entry.File f) = File f
+mark_of (entry.Dir d) = Dir d
+
 -- nothing below is seen under the path: a whiteout, a file or an opaque directory
 abbrev pub stops : Option Mark → Bool
 stops None = false

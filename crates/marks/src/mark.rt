@@ -1,6 +1,6 @@
 // What a layer says of a path.
 ghost use Rattle.std.specs.Prelude.{◌≡◌, Some};
-ghost use Rattle.marks.specs.Marks.{entry_of, stops};
+ghost use Rattle.marks.specs.Marks.{entry_of, mark_of, stops, is_opaque};
 
 use trees::entry::{DirMeta, Entry, FileMeta};
 
@@ -31,9 +31,24 @@ impl Mark {
     pub fn is_cut(self) -> bool
         ensures { result ≡ stops (Some self) }
     {
-        match self {
-            Mark::Dir(_) => false,
-            _ => true,
+        !matches!(self, Mark::Dir(_))
+    }
+
+    pub fn is_opaque(self) -> bool
+        ensures { result ≡ is_opaque (Some self) }
+    {
+        matches!(self, Mark::Opaque(_))
+    }
+}
+
+// The mark that sets an entry, and hides nothing below it.
+impl From<Entry> for Mark {
+    ghost from_gives = { λ entry mark. mark ≡ mark_of entry };
+
+    fn from(entry: Entry) -> Mark {
+        match entry {
+            Entry::File(file) => Mark::File(file),
+            Entry::Dir(dir) => Mark::Dir(dir),
         }
     }
 }

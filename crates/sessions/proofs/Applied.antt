@@ -2,6 +2,7 @@
 use Rattle.std.proofs.Common.{◌≡◌, ◌+◌, ◌≤◌, true, ◌&&◌, List, length, is_some, Some, None, Option, sym, refl, ap, ◌∙◌, arith}
 use Rattle.std.proofs.lemmas.Bool.{true≢false}
 use Rattle.rows.specs.Maps.{Names, at, ascending}
+use Rattle.trees.specs.declared.entry.Entry.{Entry}
 use Rattle.trees.specs.Entries.{Row, closed, fine}
 use Rattle.edits.specs.declared.action.Action.{Action}
 use Rattle.edits.specs.declared.action.Action.TheVariants.{Put, Mkdir, Chmod, Remove}
@@ -14,6 +15,10 @@ use Rattle.marks.proofs.Grows.{ProperDirs}
 use Rattle.marks.proofs.Edited.{layered-marked}
 use Rattle.marks.proofs.Noted.{Writes, writes}
 use Rattle.sessions.specs.Sessions.{room_of}
+
+-- the mark that was asked for, over what stands at the path
+pub mark_is : (a : Action) (m : List MarkRow) (e : List Row) (p : Names) (r o : Option Mark) (v : Option Entry) → r ≡ new_mark a o v → o ≡ at m p → v ≡ at (merged m e) p → new_mark a (at m p) (at (merged m e) p) ≡ r
+mark_is a m e p r o v h f k = sym (h ∙ ap (λ z. new_mark a z v) f ∙ ap (new_mark a (at m p)) k)
 
 -- what `write` asks
 pub record Writable (x : Mark) (m : List MarkRow) (e : List Row) (p : Names) (after : List MarkRow) : Type 0 where

@@ -1,13 +1,26 @@
 -- The choice between a row and a child of the tree below. Assumes nothing.
-use Rattle.std.proofs.Common.{◌≡◌, ℕ, true, false, List, is_some, Some, None, Option, sym, refl, ap, ◌∙◌}
+use Rattle.std.proofs.Common.{◌≡◌, ℕ, Bool, true, false, cond, List, is_some, Some, None, Option, MatchOption, Bor, sym, refl, ap, ◌∙◌}
 use Rattle.std.proofs.lemmas.Bool.{true≢false}
-use Rattle.std.specs.Option.{option_map}
+use Rattle.std.specs.Option.{option_map, option_copied}
+use Rattle.paths.specs.declared.Path.{Path}
+use Rattle.paths.specs.Paths.{names}
 use Rattle.rows.specs.Maps.{Names, before, first, has, ascending, is_child, child_path}
 use Rattle.rows.proofs.Firsts.{first_some, in-there}
 use Rattle.marks.specs.declared.mark.Mark.{Mark}
 use Rattle.marks.specs.declared.mark.Mark.TheVariants.{Whiteout, File, Dir, Opaque}
 use Rattle.marks.specs.Marks.{entry_of}
 use Rattle.layers.specs.Choosing.{leads, hidden}
+
+-- the child of the tree below, which is asked where it is seen
+pub low_is : {T : Type 0} {P : Bor T → Type 0} (lower : Option (Bor T)) (shown : Bool) (t : T) (low : Option Path) (child : T → Option Names) → option_copied lower ≡ cond shown (Some t) None → MatchOption lower (low ≡ None) P → ((x : Bor T) → P x → option_map names low ≡ child x.now) → option_map names low ≡ cond shown (child t) None
+low_is None true t low child h k f = absurd (true≢false (sym (ap is_some h)))
+low_is None false t low child h k f = ap (option_map names) k
+low_is (Some x) true t low child h k f = let s : x.now ≡ t = cc in f x k ∙ ap child s
+low_is (Some x) false t low child h k f = absurd (true≢false (ap is_some h))
+
+pub leads_is : {P : Path → Type 0} (low : Option Path) (r : Names) (b : Bool) → MatchOption low (b ≡ false) P → ((x : Path) → P x → b ≡ before (names x) r) → b ≡ leads (option_map names low) r
+leads_is None r b h f = h
+leads_is (Some x) r b h f = f x h
 
 pub leads-some : (o : Option Names) (r : Names) → leads o r ≡ true → (l : Names) × (o ≡ Some l) × (before l r ≡ true)
 leads-some None r h = absurd (true≢false (sym h))

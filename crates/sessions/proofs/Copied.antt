@@ -1,16 +1,13 @@
 -- The rows that a copy-up adds, put among those that are there. Assumes nothing.
-use Rattle.std.proofs.Common.{◌≡◌, ℕ, ◌+◌, ◌<◌, ◌≤◌, Bool, true, false, cond, leb, List, [], ◌∷◌, ◌++◌, length, take, drop, set, is_some, Some, None, Option, sym, refl, ap, ◌∙◌, subst, inl, inr, ⊎_elim, append_assoc, append-nil, arith}
-use mathlib.Core.List.{map-append}
-use Rattle.std.proofs.lemmas.List.{take_more_set, take-append-drop, drop_all, length-set}
-use Rattle.std.proofs.lemmas.Bool.{true≢false, and_from, cond-true, cond-false, le-leb, cases_Bool}
+use Rattle.std.proofs.Common.{◌≡◌, ℕ, suc, ◌+◌, ◌<◌, ◌≤◌, Bool, true, false, cond, leb, List, [], ◌∷◌, ◌++◌, length, take, drop, is_some, Some, None, Option, sym, refl, ap, ◌∙◌, subst, inl, inr, ⊎_elim, append_assoc, append-nil, length-append, arith}
+use Rattle.std.proofs.lemmas.List.{take-append-drop, take_all, drop_all}
+use Rattle.std.proofs.lemmas.Bool.{true≢false, and_parts, and_from, cond-true, cond-false, le-leb, cases_Bool}
 use Rattle.std.specs.Option.{option_map}
 use Rattle.paths.specs.Names.{prefixes}
-use Rattle.paths.specs.Paths.{names}
 use Rattle.paths.proofs.Joins.{prefixes_long}
-use Rattle.rows.specs.declared.row.Row.{Row as Stored}
-use Rattle.rows.specs.Rows.{row_of, rows_of}
-use Rattle.rows.specs.Maps.{Names, at, has, ascending, under, replaced, or_else}
+use Rattle.rows.specs.Maps.{Names, at, has, before, above, ascending, under, replaced, or_else}
 use Rattle.rows.specs.Builds.{same, row, build}
+use Rattle.rows.specs.Positions.{lead}
 use Rattle.rows.specs.Tables.{spliced, splices}
 use Rattle.rows.proofs.Firsts.{In, holds_at, in-there, prefix_there, head_least}
 use Rattle.rows.proofs.Built.{at-built, ascending-build, same_rows, told, same_path}
@@ -136,70 +133,74 @@ module _ (x : Mark) (m : List MarkRow) (e : List Row) (p : Names) (lm : layered 
   pub put_done : ProperDirs (merged m e) p → length m + lacks m p ≤ 192 → (new after : List MarkRow) → new ≡ fresh_rows x m e p → after ≡ cond (has m p) (replaced m p x) (cond (splices 192 new m) (spliced new m) m) → after ≡ written x m e p
   put_done dirs room new after f h = h ∙ ap (λ z. cond (has m p) (replaced m p x) (cond (splices 192 z m) (spliced z m) m)) f ∙ put_result dirs room
 
-none-there : (m : List MarkRow) (q : Names) → has m q ≡ false → at m q ≡ None
-none-there m q h = go (at m q) h where
-  go : (o : Option Mark) → is_some o ≡ false → o ≡ None
-  go None h = refl
-  go (Some x) h = absurd (true≢false h)
-
-module _ (x : Mark) (m : List MarkRow) (e : List Row) (p q : Names) (absent : has m q ≡ false) where
-  pub fresh_here : same q p ≡ true → fresh_mark x m e p q ≡ Some x
-  fresh_here s = cond-false (has m q) None (write_at x (at m) (at (merged m e)) p q) absent ∙ cond-true (same q p) (Some x) _ s
-
-  pub fresh_above : same q p ≡ false → under q p ≡ true → fresh_mark x m e p q ≡ lifted None (at (merged m e) q)
-  fresh_above n u =
-      cond-false (has m q) None (write_at x (at m) (at (merged m e)) p q) absent
-      ∙ cond-false (same q p) (Some x) _ n
-      ∙ cond-true (under q p) (lifted (at m q) (at (merged m e) q)) (at m q) u
-      ∙ ap (λ o. lifted o (at (merged m e) q)) (none-there m q absent)
-
 -- ---- the new rows, one prefix after the other
 
-module _ (x : Mark) (m : List MarkRow) (e : List Row) (p : Names) (k : ℕ) (h : k < length p + 1) where
-  pub skip_fresh : has m (take k p) ≡ true → build (fresh_mark x m e p) (drop k (prefixes p)) ≡ build (fresh_mark x m e p) (drop (k + 1) (prefixes p))
-  skip_fresh t =
-      ap (build (fresh_mark x m e p)) (next_prefix p k h)
-      ∙ ap (λ o. row (take k p) o (build (fresh_mark x m e p) (drop (k + 1) (prefixes p)))) (cond-true (has m (take k p)) None (write_at x (at m) (at (merged m e)) p (take k p)) t)
+-- rows that rise: those in front do without the rest, and all come before the next
+rises_front : {V : Type 0} (rs : List (Names × V)) (r : Names × V) (rest : List (Names × V)) → ascending (rs ++ r ∷ rest) ≡ true → (ascending (rs ++ r ∷ []) ≡ true) × (lead r.0 rs ≡ length rs)
+rises_front [] r rest up = (refl, refl)
+rises_front {V} (x ∷ rs) r rest up =
+    let d = and_parts (above x.0 (rs ++ r ∷ rest)) (ascending (rs ++ r ∷ rest)) up in
+    let k = rises_front rs r rest d.1 in (
+      and_from (above x.0 (rs ++ r ∷ [])) (ascending (rs ++ r ∷ [])) (sym (alike rs) ∙ d.0) k.0,
+      cond-true (before x.0 r.0) (suc (lead r.0 rs)) 0 (head_least x (rs ++ r ∷ rest) up r (inside rs)) ∙ ap suc k.1,
+    ) where
+      alike : (rs : List (Names × V)) → above x.0 (rs ++ r ∷ rest) ≡ above x.0 (rs ++ r ∷ [])
+      alike [] = refl
+      alike (y ∷ rs) = refl
 
-  pub take_fresh : (y : Mark) → fresh_mark x m e p (take k p) ≡ Some y → build (fresh_mark x m e p) (drop k (prefixes p)) ≡ (take k p, y) ∷ build (fresh_mark x m e p) (drop (k + 1) (prefixes p))
-  take_fresh y f =
-      ap (build (fresh_mark x m e p)) (next_prefix p k h)
-      ∙ ap (λ o. row (take k p) o (build (fresh_mark x m e p) (drop (k + 1) (prefixes p)))) f
+      inside : (rs : List (Names × V)) → In (rs ++ r ∷ rest) r
+      inside [] = inl refl
+      inside (y ∷ rs) = inr (inside rs)
+
+-- a row that is put where all others come before it is the last
+spliced_last : {V : Type 0} (rs : List (Names × V)) (r : Names × V) → lead r.0 rs ≡ length rs → spliced (r ∷ []) rs ≡ rs ++ r ∷ []
+spliced_last rs r h =
+    ap (λ k. take k rs ++ r ∷ drop k rs) h
+    ∙ ap (λ z. z ++ r ∷ drop (length rs) rs) (take_all (length rs) rs (omega arith))
+    ∙ ap (λ z. rs ++ r ∷ z) (drop_all (length rs) rs (omega arith))
 
 -- some rows are made, those of the later prefixes are left
-pub record Filled (x : Mark) (m : List MarkRow) (e : List Row) (p : Names) (k n : ℕ) (rows : List (Stored Mark)) : Type 0 where
-  pub few : n ≤ k
-  pub wide : length rows ≡ 9
-  pub whole : rows_of (take n rows) ++ build (fresh_mark x m e p) (drop k (prefixes p)) ≡ fresh_rows x m e p
+pub record Filled (x : Mark) (m : List MarkRow) (e : List Row) (p : Names) (k : ℕ) (rows : List MarkRow) : Type 0 where
+  pub few : length rows ≤ k
+  pub whole : rows ++ build (fresh_mark x m e p) (drop k (prefixes p)) ≡ fresh_rows x m e p
 
-module _ (x : Mark) (m : List MarkRow) (e : List Row) (p : Names) (k n : ℕ) (rows : List (Stored Mark)) (f : Filled x m e p k n rows) where
-  pub fill_skip : k < length p + 1 → has m (take k p) ≡ true → Filled x m e p (k + 1) n rows
-  fill_skip h t = record {
+module _ (x : Mark) (m : List MarkRow) (e : List Row) (p : Names) (k : ℕ) (rows : List MarkRow) (f : Filled x m e p k rows) (q : Names) (at_k : q ≡ take k p) where
+  next_fresh : k < length p + 1 → build (fresh_mark x m e p) (drop k (prefixes p)) ≡ row q (fresh_mark x m e p q) (build (fresh_mark x m e p) (drop (k + 1) (prefixes p)))
+  next_fresh h = ap (build (fresh_mark x m e p)) (next_prefix p k h) ∙ ap (λ z. row z (fresh_mark x m e p z) (build (fresh_mark x m e p) (drop (k + 1) (prefixes p)))) (sym at_k)
+
+  pub fill_skip : k < length p + 1 → fresh_mark x m e p q ≡ None → Filled x m e p (k + 1) rows
+  fill_skip h n = record {
     few = omega (arith, f.few);
-    wide = f.wide;
-    whole = sym (ap (λ z. rows_of (take n rows) ++ z) (skip_fresh x m e p k h t)) ∙ f.whole;
+    whole = sym (ap (λ z. rows ++ z) (next_fresh h ∙ ap (λ o. row q o (build (fresh_mark x m e p) (drop (k + 1) (prefixes p)))) n)) ∙ f.whole;
   }
 
-  pub fill_more : k < length p + 1 → n < 9 → (r : Stored Mark) → names r.path ≡ take k p → fresh_mark x m e p (take k p) ≡ Some r.value → Filled x m e p (k + 1) (n + 1) (set rows n r)
-  fill_more h l r q y = record {
-    few = omega (arith, f.few);
-    wide = length-set rows n r ∙ f.wide;
-    whole =
-        ap (λ z. rows_of z ++ left) (take_more_set rows n r (omega (arith, l, f.wide)))
-        ∙ ap (λ z. z ++ left) (map-append row_of (take n rows) (r ∷ []))
-        ∙ append_assoc (rows_of (take n rows)) (row_of r ∷ []) left
-        ∙ ap (λ z. rows_of (take n rows) ++ ((z, r.value) ∷ left)) q
-        ∙ sym (ap (λ z. rows_of (take n rows) ++ z) (take_fresh x m e p k h r.value y))
-        ∙ f.whole;
-  } where
-    left : List MarkRow
-    left = build (fresh_mark x m e p) (drop (k + 1) (prefixes p))
+  pub fill_more : k < length p + 1 → k < 9 → (y : Mark) → fresh_mark x m e p q ≡ Some y → (ok : Bool) (after : List MarkRow) → ok ≡ splices 9 ((q, y) ∷ []) rows → after ≡ cond ok (spliced ((q, y) ∷ []) rows) rows → Filled x m e p (k + 1) after
+  fill_more h l y n ok after was put =
+      subst (Filled x m e p (k + 1)) (sym (put ∙ cond-true ok _ rows (was ∙ fits) ∙ last))
+      (record { few = omega (arith, f.few, length-append rows (r ∷ [])); whole = append_assoc rows (r ∷ []) left ∙ all }) where
+        r : MarkRow
+        r = (q, y)
 
-  pub fill_all : length p + 1 ≤ k → rows_of (take n rows) ≡ fresh_rows x m e p
-  fill_all h =
-      sym (append-nil (rows_of (take n rows)))
-      ∙ sym (ap (λ z. rows_of (take n rows) ++ build (fresh_mark x m e p) z) (drop_all k (prefixes p) (omega (arith, h, prefixes_long p))))
-      ∙ f.whole
+        left : List MarkRow
+        left = build (fresh_mark x m e p) (drop (k + 1) (prefixes p))
+
+        all : rows ++ r ∷ left ≡ fresh_rows x m e p
+        all = sym (ap (λ z. rows ++ z) (next_fresh h ∙ ap (λ o. row q o left) n)) ∙ f.whole
+
+        front : (ascending (rows ++ r ∷ []) ≡ true) × (lead r.0 rows ≡ length rows)
+        front = rises_front rows r left (ap ascending all ∙ ascending-build (fresh_mark x m e p) (prefixes p) (ascends-prefixes p))
+
+        last : spliced (r ∷ []) rows ≡ rows ++ r ∷ []
+        last = spliced_last rows r front.1
+
+        fits : splices 9 (r ∷ []) rows ≡ true
+        fits = and_from (leb (length rows + 1) 9) (ascending (spliced (r ∷ []) rows)) (le-leb (length rows + 1) 9 (omega (arith, f.few))) (ap ascending last ∙ front.0)
+
+pub fill_all : (x : Mark) (m : List MarkRow) (e : List Row) (p : Names) (k : ℕ) (rows : List MarkRow) → Filled x m e p k rows → length p + 1 ≤ k → rows ≡ fresh_rows x m e p
+fill_all x m e p k rows f h =
+    sym (append-nil rows)
+    ∙ sym (ap (λ z. rows ++ build (fresh_mark x m e p) z) (drop_all k (prefixes p) (omega (arith, h, prefixes_long p))))
+    ∙ f.whole
 
 -- the prefix of k names has the path below it
 pub under-take : (k : ℕ) (p : Names) → under (take k p) p ≡ true

@@ -15,11 +15,20 @@ use Rattle.marks.proofs.Edited.{layered-marked}
 use Rattle.marks.proofs.Noted.{length_marked, length-written}
 use Rattle.sessions.specs.Sessions.{room_of}
 
+-- what is left of a layer without the rows at and below a path
+pub record Taken (m : List MarkRow) (e : List Row) (p : Names) (m' : List MarkRow) : Type 0 where
+  pub layer : layered m' ≡ true
+  pub dirs : ProperDirs (merged m' e) p
+  pub shown : shows_below m e p ≡ true → written Whiteout m' e p ≡ removed m e p
+  pub hidden : shows_below m e p ≡ false → m' ≡ removed m e p
+  pub grows : shows_below m e p ≡ true → layered (written Whiteout m' e p) ≡ true
+  pub room : shows_below m e p ≡ true → length m' + lacks m' p ≤ 192
+
 module _ (m : List MarkRow) (e : List Row) (lm : layered m ≡ true) (le : (ascending e && closed e e) ≡ true) (p : Names) (few : length m ≤ 192) (good : fine p ≡ true) (granted : refused_at (merged m e) (room_of m) (lacks m p) p Remove ≡ None) (m' : List MarkRow) (is : m' ≡ without p m) where
-  pub taken_layer : layered m' ≡ true
+  taken_layer : layered m' ≡ true
   taken_layer = ap layered is ∙ layered-without m e lm le p
 
-  pub taken_dirs : ProperDirs (merged m' e) p
+  taken_dirs : ProperDirs (merged m' e) p
   taken_dirs =
       subst (λ z. ProperDirs (merged z e) p) (sym is)
       (dirs-without m e lm le p (dirs-above (merged m e) (tree_parts (merged m e) (merged_tree m e lm le)).1 p (granted-remove (merged m e) (room_of m) (lacks m p) p granted).1))
@@ -32,18 +41,21 @@ module _ (m : List MarkRow) (e : List Row) (lm : layered m ≡ true) (le : (asce
   unfolding removed
   hidden-is h = cond-false (shows_below m e p) (written Whiteout (without p m) e p) (without p m) h
 
-  pub taken_shown : shows_below m e p ≡ true → written Whiteout m' e p ≡ removed m e p
+  taken_shown : shows_below m e p ≡ true → written Whiteout m' e p ≡ removed m e p
   taken_shown h = ap (λ z. written Whiteout z e p) is ∙ sym (shown-is h)
 
-  pub taken_hidden : shows_below m e p ≡ false → m' ≡ removed m e p
+  taken_hidden : shows_below m e p ≡ false → m' ≡ removed m e p
   taken_hidden h = is ∙ sym (hidden-is h)
 
-  pub taken_grows : shows_below m e p ≡ true → layered (written Whiteout m' e p) ≡ true
+  taken_grows : shows_below m e p ≡ true → layered (written Whiteout m' e p) ≡ true
   taken_grows h = ap layered (taken_shown h) ∙ layered-marked m e lm le p good (room_of m) (lacks m p) Remove granted
 
-  pub taken_room : shows_below m e p ≡ true → length m' + lacks m' p ≤ 192
+  taken_room : shows_below m e p ≡ true → length m' + lacks m' p ≤ 192
   taken_room h =
       let l = length-written Whiteout m' e p (layer_parts m' taken_layer).0 taken_dirs in
       let k = length_marked m e p (layer_parts m lm).0 Remove in
       let r = granted-room (merged m e) (room_of m) (lacks m p) p Remove granted in
       omega (arith, few, l, k, r, ap length (taken_shown h))
+
+  pub taken : Taken m e p m'
+  taken = record { layer = taken_layer; dirs = taken_dirs; shown = taken_shown; hidden = taken_hidden; grows = taken_grows; room = taken_room }

@@ -55,8 +55,9 @@ impl<T> Sealed<T> {
         ensures layer { result.0 ≡ self.session.layer }
         ensures lower { result.1 ≡ self.session.lower }
     {
-        let Sealed { session } = self;
-        let Session { layer, lower } = session;
+        let Sealed {
+            session: Session { layer, lower },
+        } = self;
         (layer, lower)
     }
 }

@@ -1,9 +1,9 @@
 // Edits of a session: checked by what is seen, and made on the marks.
-ghost use Rattle.std.specs.Prelude.{◌≡◌, ◌+◌, ◌≤◌, true, false, length, is_ok, None};
+ghost use Rattle.std.specs.Prelude.{◌≡◌, ◌+◌, ◌≤◌, true, false, length, is_ok};
 ghost use Rattle.paths.specs.Paths.{names};
-ghost use Rattle.trees.specs.Entries.{fine};
 ghost use Rattle.edits.specs.Edits.{refused_at, answered, Outcome};
 ghost use Rattle.marks.specs.Marks.{layered};
+ghost use Rattle.marks.specs.Laws.{Granted};
 ghost use Rattle.edits.specs.declared.action.Action.TheVariants.{Remove};
 ghost use Rattle.marks.specs.Edits.{written, shows_below, removed, marked, lacks};
 ghost use Rattle.marks.proofs.Grows.{ProperDirs};
@@ -11,8 +11,6 @@ ghost use Rattle.sessions.specs.Sessions.{room_of, refusal_over, marks_after, ma
 ghost use Rattle.marks.proofs.Noted.{lacks_most};
 
 use crate::session::Session;
-use crate::session::copies::fresh_rows;
-use crate::session::seen::seen_entry;
 use edits::action::Action;
 use edits::checks;
 use edits::editable::Editable;
@@ -22,6 +20,7 @@ use marks::writing::mark_after;
 use paths::Path;
 use trees::asked;
 use trees::fault::Fault;
+use trees::store::Store;
 use trees::tree::Tree;
 
 impl<T: Tree> Session<T> {
@@ -33,15 +32,14 @@ impl<T: Tree> Session<T> {
         ensures marks { marks_in self.new ≡ written mark (marks_in self.old) (rows_below T.Tree.entries self.old) (names path.now) }
         ensures lower { self.new.lower ≡ self.old.lower }
     {
-        let (new, count) = fresh_rows(self, path, mark);
-        put_rows(&mut self.layer.rows, path, mark, &new[0..count]);
+        let new = self.fresh_rows(path, mark);
+        put_rows(&mut self.layer.rows, path, mark, new.as_rows());
     }
 
     // Drops the rows at the path and below it. Where the tree below would be seen again, a whiteout
     // hides it.
     fn take_out(&mut self, path: &Path)
-        requires good { fine (names path.now) ≡ true }
-        requires granted { refused_at (seen_rows T.Tree.entries self.old) (room_of (marks_in self.old)) (lacks (marks_in self.old) (names path.now)) (names path.now) Remove ≡ None }
+        requires { Granted (marks_in self.old) (rows_below T.Tree.entries self.old) (room_of (marks_in self.old)) (names path.now) Remove }
         ensures marks { marks_in self.new ≡ removed (marks_in self.old) (rows_below T.Tree.entries self.old) (names path.now) }
         ensures lower { self.new.lower ≡ self.old.lower }
     {
@@ -56,39 +54,26 @@ impl<T: Tree> Session<T> {
     fn is_shown_below(&self, path: &Path) -> bool
         ensures { result ≡ shows_below (marks_in self.now) (rows_below T.Tree.entries self.now) (names path.now) }
     {
-        match asked::entry_at(&self.lower, path) {
-            Some(_) => !self.layer.hides(path),
-            None => false,
-        }
+        asked::entry_at(&self.lower, path).is_some() && !self.layer.hides(path)
     }
 
     // Makes an edit that is granted.
     fn apply(&mut self, path: &Path, action: Action)
-        requires good { fine (names path.now) ≡ true }
-        requires granted { refused_at (seen_rows T.Tree.entries self.old) (room_of (marks_in self.old)) (lacks (marks_in self.old) (names path.now)) (names path.now) action ≡ None }
+        requires { Granted (marks_in self.old) (rows_below T.Tree.entries self.old) (room_of (marks_in self.old)) (names path.now) action }
         ensures marks { marks_in self.new ≡ marked (marks_in self.old) (rows_below T.Tree.entries self.old) (names path.now) action }
         ensures lower { self.new.lower ≡ self.old.lower }
     {
-        let mark = self.layer.mark(path);
-        let entry = seen_entry(self, path);
-        match mark_after(action, mark, entry) {
+        match mark_after(action, self.layer.mark(path), self.entry(path)) {
             Some(mark) => self.write(path, mark),
             None => self.take_out(path),
         }
-    }
-
-    fn rows_left(&self) -> usize
-        ensures { result ≡ room_of (marks_in self.now) }
-    {
-        192 - self.layer.count()
     }
 
     // The checks of an edit at a good path, by what is seen.
     fn check(&self, path: &Path, action: Action) -> Result<(), Fault>
         ensures { result ≡ answered (refused_at (seen_rows T.Tree.entries self.now) (room_of (marks_in self.now)) (lacks (marks_in self.now) (names path.now)) (names path.now) action) }
     {
-        let need = self.layer.lacking(path);
-        checks::check(self, path, action, self.rows_left(), need)
+        checks::check(self, path, action, self.room(), self.layer.lacking(path))
     }
 
     // Makes one change at a path, or refuses and leaves all as it was: the marks afterwards.
@@ -113,7 +98,7 @@ impl<T: Tree> Editable for Session<T> {
     ghost few = { λ t p. lacks_most (marks_in t) p };
 
     fn room(&self) -> usize {
-        self.rows_left()
+        192 - self.layer.count()
     }
 
     fn need(&self, path: &[u8]) -> Result<usize, Fault> {

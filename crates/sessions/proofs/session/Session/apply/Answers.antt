@@ -1,12 +1,11 @@
-use Rattle.std.proofs.Common.{◌≡◌, None, sym, ap, ◌∙◌, subst}
+use Rattle.std.proofs.Common.{Some, None, sym, ap, ◌∙◌, subst}
 use Rattle.paths.specs.Paths.{names}
-use Rattle.rows.specs.Maps.{at}
-use Rattle.edits.specs.Edits.{refused_at}
+use Rattle.edits.proofs.Belows.{path_fine}
 use Rattle.layers.proofs.Few.{few-rows}
-use Rattle.marks.specs.Marks.{merged}
-use Rattle.marks.specs.Edits.{new_mark, marked, lacks}
+use Rattle.marks.specs.Edits.{marked}
+use Rattle.marks.specs.Laws.{Granted}
 use Rattle.sessions.specs.Sessions.{room_of, marks_in, rows_below}
-use Rattle.sessions.proofs.Applied.{applied_some, applied_none}
+use Rattle.sessions.proofs.Applied.{mark_is, applied_some, applied_none}
 use Rattle.sessions.proofs.session.Session.apply.Goals as goal
 
 pub write-requires : goal.write-requires
@@ -15,8 +14,8 @@ write-requires g c =
     let m = marks_in s in
     let e = rows_below g.T.Tree.entries s in
     let p = names c.args.path.now in
-    let n = sym (c.in-Some.ensures ∙ ap (λ z. new_mark c.args.action z c.seen_entry-entry.result) c.mark-mark.ensures ∙ ap (new_mark c.args.action (at m p)) c.seen_entry-entry.ensures) in
-    let w = applied_some m e s.layer.grown (g.T.Tree.entries s.lower).ok p (few-rows s.layer) c.requires.good c.args.action c.requires.granted c.in-Some.mark n in
+    let n = mark_is c.args.action m e p (Some c.in-Some.mark) c.mark.result c.entry.result c.in-Some.ensures c.mark.ensures c.entry.ensures in
+    let w = applied_some m e s.layer.grown (g.T.Tree.entries s.lower).ok p (few-rows s.layer) (path_fine c.args.path.now) c.args.action c.requires c.in-Some.mark n in
     record { dirs = w.dirs; room = w.room; grows = w.grows }
 
 pub take_out-requires : goal.take_out-requires
@@ -25,26 +24,26 @@ take_out-requires g c =
     let m = marks_in s in
     let e = rows_below g.T.Tree.entries s in
     let p = names c.args.path.now in
-    let n = sym (c.in-None.ensures ∙ ap (λ z. new_mark c.args.action z c.seen_entry-entry.result) c.mark-mark.ensures ∙ ap (new_mark c.args.action (at m p)) c.seen_entry-entry.ensures) in
-    let r = applied_none m e s.layer.grown (g.T.Tree.entries s.lower).ok p (few-rows s.layer) c.requires.good c.args.action c.requires.granted n in
-    record { good = c.requires.good; granted = subst (λ a. refused_at (merged m e) (room_of m) (lacks m p) p a ≡ None) r c.requires.granted }
+    let n = mark_is c.args.action m e p None c.mark.result c.entry.result c.in-None.ensures c.mark.ensures c.entry.ensures in
+    let r = applied_none m e s.layer.grown (g.T.Tree.entries s.lower).ok p (few-rows s.layer) (path_fine c.args.path.now) c.args.action c.requires n in
+    subst (Granted m e (room_of m) p) r c.requires
 
-pub returns-in-Some : goal.returns-in-Some
-returns-in-Some g c =
+pub returns-in-Some-clause-marks : goal.returns-in-Some-clause-marks
+returns-in-Some-clause-marks g c =
     let s = c.args.self.now in
     let m = marks_in s in
     let e = rows_below g.T.Tree.entries s in
     let p = names c.args.path.now in
-    let n = sym (c.in-Some.ensures ∙ ap (λ z. new_mark c.args.action z c.seen_entry-entry.result) c.mark-mark.ensures ∙ ap (new_mark c.args.action (at m p)) c.seen_entry-entry.ensures) in
-    let w = applied_some m e s.layer.grown (g.T.Tree.entries s.lower).ok p (few-rows s.layer) c.requires.good c.args.action c.requires.granted c.in-Some.mark n in
-    record { marks = c.write.ensures.marks ∙ w.is; lower = c.write.ensures.lower }
+    let n = mark_is c.args.action m e p (Some c.in-Some.mark) c.mark.result c.entry.result c.in-Some.ensures c.mark.ensures c.entry.ensures in
+    let w = applied_some m e s.layer.grown (g.T.Tree.entries s.lower).ok p (few-rows s.layer) (path_fine c.args.path.now) c.args.action c.requires c.in-Some.mark n in
+    c.write.ensures.marks ∙ w.is
 
-pub returns-in-None : goal.returns-in-None
-returns-in-None g c =
+pub returns-in-None-clause-marks : goal.returns-in-None-clause-marks
+returns-in-None-clause-marks g c =
     let s = c.args.self.now in
     let m = marks_in s in
     let e = rows_below g.T.Tree.entries s in
     let p = names c.args.path.now in
-    let n = sym (c.in-None.ensures ∙ ap (λ z. new_mark c.args.action z c.seen_entry-entry.result) c.mark-mark.ensures ∙ ap (new_mark c.args.action (at m p)) c.seen_entry-entry.ensures) in
-    let r = applied_none m e s.layer.grown (g.T.Tree.entries s.lower).ok p (few-rows s.layer) c.requires.good c.args.action c.requires.granted n in
-    record { marks = c.take_out.ensures.marks ∙ sym (ap (marked m e p) r); lower = c.take_out.ensures.lower }
+    let n = mark_is c.args.action m e p None c.mark.result c.entry.result c.in-None.ensures c.mark.ensures c.entry.ensures in
+    let r = applied_none m e s.layer.grown (g.T.Tree.entries s.lower).ok p (few-rows s.layer) (path_fine c.args.path.now) c.args.action c.requires n in
+    c.take_out.ensures.marks ∙ sym (ap (marked m e p) r)

@@ -3,7 +3,6 @@ use Rattle.std.proofs.lemmas.Bool.{true≢false}
 use Rattle.std.proofs.lemmas.Result.{err_from_is_err_and}
 use Rattle.paths.specs.Paths.{names}
 use Rattle.edits.specs.Edits.{refused_at}
-use Rattle.edits.proofs.Belows.{path_fine}
 use Rattle.edits.proofs.Outcomes.{answered-none, answered-some, bad_refusal, good-refusal}
 use Rattle.marks.specs.Marks.{merged}
 use Rattle.marks.specs.Edits.{lacks}
@@ -34,7 +33,7 @@ apply-requires g c =
     let m = marks_in c.args.self.now in
     let e = rows_below g.T.Tree.entries c.args.self.now in
     let p = names c.in_ok-path.path in
-    record { good = path_fine c.in_ok-path.path; granted = answered-none (refused_at (merged m e) (room_of m) (lacks m p) p c.args.action) c.in_ok-check.field-0 c.in_ok-check.ensures }
+    answered-none (refused_at (merged m e) (room_of m) (lacks m p) p c.args.action) c.in_ok-check.field-0 c.in_ok-check.ensures
 
 pub returns : goal.returns
 returns g c =

@@ -1,7 +1,5 @@
-use Rattle.std.proofs.Common.{take, refl, ap, ◌∙◌}
-use native.Mathlib.Nat.{sub-zero}
+use Rattle.std.proofs.Common.{ap, ◌∙◌}
 use Rattle.paths.specs.Paths.{names}
-use Rattle.rows.specs.Rows.{rows_of}
 use Rattle.rows.specs.Tables.{listed}
 use Rattle.marks.specs.Marks.{layered}
 use Rattle.sessions.specs.Sessions.{marks_in, rows_below}
@@ -11,13 +9,10 @@ use Rattle.sessions.proofs.session.Session.write.Goals as goal
 pub invariant_of-self : goal.invariant_of-self
 invariant_of-self g c =
     let s = c.args.self.now in
-    let e = put_done c.args.mark (marks_in s) (rows_below g.T.Tree.entries s) (names c.args.path.now) s.layer.grown c.requires.dirs c.requires.room _ (listed c.put_rows.new.rows) (ap (λ j. rows_of (take j c.fresh_rows-count.result.0)) (sub-zero c.fresh_rows-count.result.1) ∙ c.fresh_rows-count.ensures.rows) c.put_rows.ensures in
+    let e = put_done c.args.mark (marks_in s) (rows_below g.T.Tree.entries s) (names c.args.path.now) s.layer.grown c.requires.dirs c.requires.room _ (listed c.put_rows.new.rows) (c.as_rows.ensures.listed ∙ c.fresh_rows-new.ensures) c.put_rows.ensures in
     record { grown = ap layered e ∙ c.requires.grows }
 
-pub returns : goal.returns
-returns g c =
+pub returns-clause-marks : goal.returns-clause-marks
+returns-clause-marks g c =
     let s = c.args.self.now in
-    record {
-      marks = put_done c.args.mark (marks_in s) (rows_below g.T.Tree.entries s) (names c.args.path.now) s.layer.grown c.requires.dirs c.requires.room _ (listed c.put_rows.new.rows) (ap (λ j. rows_of (take j c.fresh_rows-count.result.0)) (sub-zero c.fresh_rows-count.result.1) ∙ c.fresh_rows-count.ensures.rows) c.put_rows.ensures;
-      lower = refl;
-    }
+    put_done c.args.mark (marks_in s) (rows_below g.T.Tree.entries s) (names c.args.path.now) s.layer.grown c.requires.dirs c.requires.room _ (listed c.put_rows.new.rows) (c.as_rows.ensures.listed ∙ c.fresh_rows-new.ensures) c.put_rows.ensures
