@@ -1,8 +1,11 @@
 -- Where a row may stand, by the last row before it. Assumes nothing.
-use Rattle.std.proofs.Common.{◌≡◌, ℕ, ◌<◌, ◌≤◌, Bool, true, false, ltb, List, [], ◌∷◌, length, Some, None, Ok, Err, Option, sym, refl, ap, ◌∙◌, arith}
+use Rattle.std.proofs.Common.{◌≡◌, ℕ, ◌<◌, ◌≤◌, Bool, true, false, ltb, List, [], ◌∷◌, length, Some, None, Ok, Err, Option, MatchOption, Bor, sym, ap, ◌∙◌, arith}
 use Rattle.std.proofs.lemmas.Bool.{cond-true, cond-false, lt-ltb, le-ltb}
+use Rattle.std.specs.Option.{option_map}
 use Rattle.paths.specs.Names.{parent}
+use Rattle.rows.specs.declared.row.Row.{Row as Stored}
 use Rattle.rows.specs.Maps.{Names}
+use Rattle.rows.specs.Rows.{row_of}
 use Rattle.trees.specs.declared.entry.Entry.{Entry}
 use Rattle.trees.specs.Entries.{Row}
 use Rattle.words.specs.declared.fault.Cause.TheVariants.{Order, Parent, TooMany}
@@ -10,13 +13,11 @@ use Rattle.manifests.specs.Lasts.{Built, last_row, rises_last, parent_dir, by_la
 use Rattle.manifests.specs.Manifests.{rises, under_dir, placed}
 use Rattle.manifests.proofs.LastRow.{rises_by, under_dir_by}
 
-pub by_last-none : (p : Names) (e : Entry) → 0 < length p → by_last None p e ≡ false
-by_last-none [] e h = absurd (omega arith)
-by_last-none (n ∷ p) e h = refl
-
-pub by_last-some : (r : Row) (p : Names) (e : Entry) → 0 < length p → by_last (Some r) p e ≡ parent_dir r (parent p)
-by_last-some r [] e h = absurd (omega arith)
-by_last-some r (n ∷ p) e h = refl
+-- where the last row, if there is one, has been asked for the parent of a path
+pub by_last_at : (o : Option (Bor (Stored Entry))) (p : Names) (e : Entry) (up : Names) (t : Bool) → 0 < length p → up ≡ parent p → MatchOption o (t ≡ false) (λ r. t ≡ parent_dir (row_of r.now) up) → t ≡ by_last (option_map (λ r. row_of r.now) o) p e
+by_last_at o [] e up t h is m = absurd (omega arith)
+by_last_at None (n ∷ p) e up t h is m = m
+by_last_at (Some r) (n ∷ p) e up t h is m = m ∙ ap (parent_dir (row_of r.now)) is
 
 module _ (limit : ℕ) (rows : List Row) (p : Names) (e : Entry) (o : Option Row) (is : o ≡ last_row rows) (built : Built rows) where
   rising : (t : Bool) → rises_last o p ≡ t → rises rows p ≡ t

@@ -2,7 +2,6 @@
 
 #![tactic(auto)]
 
-mod admit;
 pub mod fault;
 pub mod index;
 mod reader;
