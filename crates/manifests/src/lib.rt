@@ -4,5 +4,5 @@
 
 pub mod fault;
 pub mod index;
-mod reader;
+pub mod reader;
 pub mod theorems;

@@ -32,7 +32,7 @@ fn is_header(text: &[u8]) -> bool
 
 // The rows that a text has given so far, which make a tree: at most `limit`.
 #[derive(Drop)]
-pub(crate) struct Reader {
+pub struct Reader {
     table: [Row<Entry>; MOST_ROWS],
     count: usize,
     limit: usize,
@@ -46,7 +46,7 @@ impl Reader {
     ghost use Rattle.manifests.specs.Readers.{so_far};
 
     // No rows yet; `given` are lent.
-    pub(crate) fn new(given: usize) -> Reader
+    pub fn new(given: usize) -> Reader
         ensures rows { so_far result ≡ [] }
         ensures limit { result.limit ≡ min given 1024 }
     {
@@ -57,7 +57,8 @@ impl Reader {
         }
     }
 
-    pub(crate) fn rows(&self) -> &[Row<Entry>]
+    // The rows so far.
+    pub fn rows(&self) -> &[Row<Entry>]
         ensures rows { rows_of result.now ≡ so_far self.now }
         ensures fits { length result.now ≤ self.now.limit }
     {
@@ -77,7 +78,7 @@ impl Reader {
     }
 
     // Takes the rows of a text in place of those it has.
-    pub(crate) fn read(&mut self, text: &[u8]) -> Result<(), ManifestFault>
+    pub fn read(&mut self, text: &[u8]) -> Result<(), ManifestFault>
         ensures rows { MatchResult result (λ _. rows_in self.old.limit text.now ≡ Ok (so_far self.new)) (λ f. rows_in self.old.limit text.now ≡ Err f) }
         ensures limit { self.new.limit ≡ self.old.limit }
     {
