@@ -12,7 +12,7 @@ use Rattle.mtree.specs.Lines.{line_of}
 use Rattle.manifests.specs.declared.reader.Reader.{Reader}
 use Rattle.manifests.specs.Lasts.{Built}
 use Rattle.manifests.specs.Manifests.{placed, row_of_line}
-use Rattle.manifests.specs.Readers.{so_far}
+use Rattle.manifests.specs.Readers.{so_far, ended, row_of_ended}
 use Rattle.manifests.proofs.BuiltRows.{line-built}
 use Rattle.manifests.proofs.ReadLines.{row_line, rows_stored, placed-room}
 
@@ -25,32 +25,30 @@ length_so_far self =
 
 -- one row more, written behind the rows so far
 pub record Taken (self : Reader) (line : List ℕ) (row : Stored Entry) : Type 0 where
-  pub line_says : row_of_line self.limit (so_far self) line ≡ Ok (row_of row)
+  pub line_says : row_of_ended self.limit (so_far self) line ≡ Ok (row_of row)
   pub room : self.count < self.limit
   pub within : self.count < length self.table
   pub stored : rows_of (take (self.count + 1) (set self.table self.count row)) ≡ so_far self ++ row_of row ∷ []
   pub built : Built (rows_of (take (self.count + 1) (set self.table self.count row)))
 
-module _ (self : Reader) (line : List ℕ) where
+module _ (self : Reader) (line text : List ℕ) (cut : ended line ≡ Ok text) where
   abbrev row_place : Stored Entry → Result Row Cause
   row_place row = placed self.limit (so_far self) (names row.path) row.value
 
-  says : row_of_line self.limit (so_far self) line ≡ and_then (line_of line) (λ r. placed self.limit (so_far self) r.0 r.1)
-  says = row_line self.limit (so_far self) line
+  says : row_of_ended self.limit (so_far self) line ≡ and_then (line_of text) (λ r. placed self.limit (so_far self) r.0 r.1)
+  says = ap (λ o. and_then o (λ l. row_of_line self.limit (so_far self) l)) cut ∙ row_line self.limit (so_far self) text
 
-  pub bad_line : (c : Cause) → line_of line ≡ Err c → row_of_line self.limit (so_far self) line ≡ Err c
+  pub bad_line : (c : Cause) → line_of text ≡ Err c → row_of_ended self.limit (so_far self) line ≡ Err c
   bad_line c e = says ∙ ap (λ x. and_then x (λ r. placed self.limit (so_far self) r.0 r.1)) e
 
-  module _ (row : Stored Entry) (read : line_of line ≡ Ok (row_of row)) where
-    placed_line : row_of_line self.limit (so_far self) line ≡ row_place row
+  module _ (row : Stored Entry) (read : line_of text ≡ Ok (row_of row)) where
+    pub placed_line : row_of_ended self.limit (so_far self) line ≡ row_place row
     placed_line = says ∙ ap (λ x. and_then x (λ r. placed self.limit (so_far self) r.0 r.1)) read
-
-    pub bad_place : (c : Cause) → row_place row ≡ Err c → row_of_line self.limit (so_far self) line ≡ Err c
-    bad_place c e = placed_line ∙ e
 
     pub row_taken : row_place row ≡ Ok (row_of row) → Taken self line row
     row_taken e =
         let line_says = placed_line ∙ e in
+        let row_says = sym (ap (λ o. and_then o (λ l. row_of_line self.limit (so_far self) l)) cut) ∙ line_says in
         let wide : length self.table ≡ 1024 = self.wide in
         let room : self.limit ≤ 1024 = self.room in
         let long = length_so_far self in
@@ -62,5 +60,5 @@ module _ (self : Reader) (line : List ℕ) where
           room = omega arith;
           within = within;
           stored = stored;
-          built = subst Built (sym stored) (line-built self.limit (so_far self) line (row_of row) self.built line_says);
+          built = subst Built (sym stored) (line-built self.limit (so_far self) text (row_of row) self.built row_says);
         }

@@ -4,12 +4,11 @@ ghost use Rattle.paths.specs.Names.{begins};
 ghost use Rattle.rows.specs.Rows.{row_of, rows_of};
 ghost use Rattle.trees.specs.Entries.{Row as Meant};
 ghost use Rattle.manifests.specs.Lasts.{Built};
-ghost use Rattle.manifests.specs.Manifests.{row_of_line, header, rows_in};
+ghost use Rattle.manifests.specs.Manifests.{header, rows_in};
 
 use crate::fault::ManifestFault;
 use crate::index::blank_row;
 use mtree::line::parse_line;
-use paths::parts::front_len;
 use rows::row::Row;
 use trees::entry::Entry;
 use words::fault::Cause;
@@ -43,7 +42,7 @@ pub struct Reader {
 }
 
 impl Reader {
-    ghost use Rattle.manifests.specs.Readers.{so_far};
+    ghost use Rattle.manifests.specs.Readers.{so_far, row_of_ended};
 
     // No rows yet; `given` are lent.
     pub fn new(given: usize) -> Reader
@@ -65,11 +64,12 @@ impl Reader {
         &self.table[..self.count]
     }
 
-    // Takes the row of one more line.
+    // Takes the row of one more line, which has to end with a newline.
     fn read_line(&mut self, line: &[u8]) -> Result<(), Cause>
-        ensures rows { MatchResult result (λ _. (r : Meant) × (row_of_line self.old.limit (so_far self.old) line.now ≡ Ok r) × (so_far self.new ≡ so_far self.old ++ r ∷ [])) (λ e. row_of_line self.old.limit (so_far self.old) line.now ≡ Err e) }
+        ensures rows { MatchResult result (λ _. (r : Meant) × (row_of_ended self.old.limit (so_far self.old) line.now ≡ Ok r) × (so_far self.new ≡ so_far self.old ++ r ∷ [])) (λ e. row_of_ended self.old.limit (so_far self.old) line.now ≡ Err e) }
         ensures limit { self.new.limit ≡ self.old.limit }
     {
+        let line = line.strip_suffix(b"\n").ok_or(Cause::Word)?;
         let row = parse_line(line)?;
         self.admit(&row)?;
         self.table[self.count] = row;
@@ -90,18 +90,10 @@ impl Reader {
         }
         self.count = 0;
         let mut at = HEADER.len();
-        while at < text.len() {
-            let rest = &text[at..];
-            let end = front_len(rest, b'\n');
-            if end == rest.len() {
-                return Err(ManifestFault {
-                    at,
-                    cause: Cause::Word,
-                });
-            }
-            self.read_line(&rest[..end])
+        for line in text[at..].split_inclusive(|byte| *byte == b'\n') {
+            self.read_line(line)
                 .map_err(|cause| ManifestFault { at, cause })?;
-            at += end + 1;
+            at += line.len();
         }
         Ok(())
     }
