@@ -61,22 +61,19 @@ row_line limit rows l = go (path_of (front 32 l)) (entry_of (later 32 l)) where
 
 -- ---- a line that is taken has room
 
-never : {A B P : Type 0} (a : A) (b : B) → ◌≡◌ {A = Result B A} (Err a) (Ok b) → P
-never a b e = let z : ◌≡◌ {A = ℕ} 0 1 = cc in absurd (omega arith)
-
 pub placed-room : (limit : ℕ) (rows : List Row) (p : Names) (e : Entry) (r : Row) → placed limit rows p e ≡ Ok r → length rows < limit
 placed-room limit rows p e r h = go (rises rows p) (under_dir rows p e) (ltb (length rows) limit) refl h where
   go : (t u v : Bool) → ltb (length rows) limit ≡ v → cond t (cond u (cond v (Ok (p, e)) (Err TooMany)) (Err Parent)) (Err Order) ≡ Ok r → length rows < limit
-  go false u v f h = never Order r h
-  go true false v f h = never Parent r h
-  go true true false f h = never TooMany r h
+  go false u v f h = cc
+  go true false v f h = cc
+  go true true false f h = cc
   go true true true f h = ltb-true (length rows) limit f
 
 pub row_room : (limit : ℕ) (rows : List Row) (l : List ℕ) (r : Row) → row_of_line limit rows l ≡ Ok r → length rows < limit
 row_room limit rows l r h = go (path_of (front 32 l)) (entry_of (later 32 l)) h where
   go : (x : Result Names Cause) (y : Result Entry Cause) → and_then x (λ p. and_then y (λ e. placed limit rows p e)) ≡ Ok r → length rows < limit
-  go (Err c) y h = never c r h
-  go (Ok p) (Err c) h = never c r h
+  go (Err c) y h = cc
+  go (Ok p) (Err c) h = cc
   go (Ok p) (Ok e) h = placed-room limit rows p e r h
 
 -- a row stored behind the rows so far
@@ -141,8 +138,8 @@ module _ (limit at : ℕ) (rows : List Row) (s x more : List ℕ) (parts : s ≡
   pub line_turns : (r : Row) → row_of_ended limit rows x ≡ Ok r → rows_from limit at rows (pieces 10 s) ≡ rows_from limit (at + length x) (rows ++ r ∷ []) (pieces 10 more)
   line_turns r e = ⊎_elim
       (λ here.
-        let n : length (front 10 s) + 1 ≡ length x = omega (arith, at_place here) in
-        rows_turn limit at rows s (omega (arith, at_place here)) r (sym (says_whole here) ∙ e) ∙ (λ j. rows_from limit (at + n j) (rows ++ r ∷ []) (pieces 10 (more_is here j))))
+      let n : length (front 10 s) + 1 ≡ length x = omega (arith, at_place here) in
+      rows_turn limit at rows s (omega (arith, at_place here)) r (sym (says_whole here) ∙ e) ∙ (λ j. rows_from limit (at + n j) (rows ++ r ∷ []) (pieces 10 (more_is here j))))
       (λ none. cc (says_cut none))
       (cases_lt i (length s))
 

@@ -30,6 +30,7 @@ fn is_header(text: &[u8]) -> bool
 }
 
 // The rows that a text has given so far, which make a tree: at most `limit`.
+// An array and a count: an `ArrayVec` is only made of what has a `Default`, and a row has none.
 #[derive(Drop)]
 pub struct Reader {
     table: [Row<Entry>; MOST_ROWS],
@@ -44,7 +45,7 @@ pub struct Reader {
 impl Reader {
     ghost use Rattle.manifests.specs.Readers.{so_far, row_of_ended};
 
-    // No rows yet; `given` are lent.
+    // A reader without rows, which takes at most `given`.
     pub fn new(given: usize) -> Reader
         ensures rows { so_far result ≡ [] }
         ensures limit { result.limit ≡ min given 1024 }
@@ -77,7 +78,7 @@ impl Reader {
         Ok(())
     }
 
-    // Takes the rows of a text in place of those it has.
+    // Takes the rows of a text in place of those it has; at a refusal, those of the lines before it.
     pub fn read(&mut self, text: &[u8]) -> Result<(), ManifestFault>
         ensures rows { MatchResult result (λ _. rows_in self.old.limit text.now ≡ Ok (so_far self.new)) (λ f. rows_in self.old.limit text.now ≡ Err f) }
         ensures limit { self.new.limit ≡ self.old.limit }

@@ -1,4 +1,4 @@
-use Rattle.std.proofs.Common.{◌≡◌, ◌≤◌, ◌&&◌, leb, refl, ◌+◌, ◌++◌, ◌∙◌, eqb, Ok, Some, None, MatchResult, IsOk, length, take, drop, rules, ap, sym, arith}
+use Rattle.std.proofs.Common.{◌≡◌, ◌&&◌, leb, refl, ◌+◌, ◌∙◌, eqb, MatchResult, IsOk, length, drop, rules, ap, sym, arith}
 use Rattle.std.proofs.lemmas.Bool.{cond-true}
 use Rattle.std.proofs.lemmas.Fn.{always_returns_same}
 use Rattle.std.proofs.lemmas.List.{take_rest, drop-drop, drop_at, length-drop, length-append}

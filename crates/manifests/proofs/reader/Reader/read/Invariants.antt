@@ -1,6 +1,6 @@
 use Rattle.std.proofs.Common.{◌≡◌, ◌≤◌, drop, length}
 use Rattle.paths.specs.Pieces.{pieces}
-use Rattle.std.specs.Slice.Iter.{split_inclusive_rest, split_inclusive_callee}
+use Rattle.std.specs.Slice.Iter.{split_inclusive_rest}
 use Rattle.manifests.specs.Manifests.{rows_from, rows_in}
 use Rattle.manifests.specs.Readers.{so_far}
 use Rattle.manifests.proofs.reader.Reader.read.Given as goal
