@@ -1,5 +1,5 @@
 -- What a line adds to a reader's rows. Assumes nothing.
-use Rattle.std.proofs.Common.{◌≡◌, ◌+◌, ◌<◌, ◌≤◌, List, ℕ, [], ◌∷◌, ◌++◌, length, take, set, Ok, Err, Result, sym, ap, ◌∙◌, subst, arith}
+use Rattle.std.proofs.Common.{◌≡◌, ◌+◌, ◌<◌, ◌≤◌, List, ℕ, [], ◌∷◌, ◌++◌, length, take, set, cond, ltb, Option, Ok, Err, Result, sym, ap, ◌∙◌, subst, arith}
 use Rattle.std.proofs.lemmas.List.{length-map, length-take-le}
 use Rattle.paths.specs.Paths.{names}
 use Rattle.rows.specs.declared.row.Row.{Row as Stored}
@@ -7,13 +7,15 @@ use Rattle.rows.specs.Rows.{row_of, rows_of}
 use Rattle.trees.specs.declared.entry.Entry.{Entry}
 use Rattle.trees.specs.Entries.{Row}
 use Rattle.words.specs.declared.fault.Cause.{Cause}
+use Rattle.words.specs.declared.fault.Cause.TheVariants.{Order, Parent, TooMany}
 use Rattle.words.specs.Steps.{and_then}
 use Rattle.mtree.specs.Lines.{line_of}
 use Rattle.manifests.specs.declared.reader.Reader.{Reader}
-use Rattle.manifests.specs.Lasts.{Built}
+use Rattle.manifests.specs.Lasts.{Built, last_row, rises_last, by_last}
 use Rattle.manifests.specs.Manifests.{placed, row_of_line}
 use Rattle.manifests.specs.Readers.{so_far, ended, row_of_ended}
 use Rattle.manifests.proofs.BuiltRows.{line-built}
+use Rattle.manifests.proofs.PlacedRow.{placed_by}
 use Rattle.manifests.proofs.ReadLines.{row_line, rows_stored, placed-room}
 
 pub length_so_far : (self : Reader) → length (so_far self) ≡ self.count
@@ -22,6 +24,10 @@ length_so_far self =
     let room : self.limit ≤ 1024 = self.room in
     let fits : self.count ≤ self.limit = self.fits in
     length-map (take self.count self.table) row_of ∙ length-take-le self.count self.table (omega arith)
+
+-- whether a row may follow, by the last row
+pub placed_in : (self : Reader) (row : Stored Entry) (o : Option Row) → o ≡ last_row (so_far self) → placed self.limit (so_far self) (names row.path) row.value ≡ cond (rises_last o (names row.path)) (cond (by_last o (names row.path) row.value) (cond (ltb (length (so_far self)) self.limit) (Ok (row_of row)) (Err TooMany)) (Err Parent)) (Err Order)
+placed_in self row o is = placed_by self.limit (so_far self) (names row.path) row.value o is self.built
 
 -- one row more, written behind the rows so far
 pub record Taken (self : Reader) (line : List ℕ) (row : Stored Entry) : Type 0 where
