@@ -78,7 +78,7 @@ impl Reader {
         Ok(())
     }
 
-    // Takes the rows of a text in place of those it has; at a refusal, those of the lines before it.
+    // Takes the rows of a text in place of those it has. After a refusal its rows say nothing of the text.
     pub fn read(&mut self, text: &[u8]) -> Result<(), ManifestFault>
         ensures rows { MatchResult result (λ _. rows_in self.old.limit text.now ≡ Ok (so_far self.new)) (λ f. rows_in self.old.limit text.now ≡ Err f) }
         ensures limit { self.new.limit ≡ self.old.limit }
