@@ -1,6 +1,5 @@
 // How a manifest tree is made, and what it answers.
-ghost use Rattle.std.specs.Prelude.{◌≡◌, true, [], length, Ok, Decides, MatchResult};
-ghost use Rattle.rows.specs.Maps.{ascending};
+ghost use Rattle.std.specs.Prelude.{◌≡◌, [], length, Ok, MatchResult};
 ghost use Rattle.rows.specs.Rows.{rows_of};
 ghost use Rattle.rows.specs.Sorts.{kept};
 ghost use Rattle.manifests.specs.Manifests.{indexed};
@@ -8,7 +7,7 @@ ghost use Rattle.base.specs.Loads.{Refused};
 
 use crate::Manifest;
 use manifests::fault::ManifestFault;
-use manifests::index::{blank_row, index};
+use manifests::reader::Reader;
 use paths::Path;
 use rows::row::Row;
 use rows::sorted::Sorted;
@@ -19,71 +18,21 @@ use trees::store::Store;
 use trees::tree::Tree;
 use words::fault::Cause;
 
-fn same_entry(a: Entry, b: Entry) -> bool
-    ensures { Decides result (a ≡ b) }
-{
-    match (a, b) {
-        (Entry::File(a), Entry::File(b)) => a.mode == b.mode
-            && a.size == b.size
-            && a.content == b.content,
-        (Entry::Dir(a), Entry::Dir(b)) => a.mode == b.mode,
-        _ => false,
-    }
-}
+const OTHER_ROWS: ManifestFault = ManifestFault {
+    at: 0,
+    cause: Cause::OtherRows,
+};
 
-fn same_row(a: &Row<Entry>, b: &Row<Entry>) -> bool
-    ensures { Decides result (a.now ≡ b.now) }
-{
-    a.path == b.path && same_entry(a.value, b.value)
-}
-
-fn same_rows(a: &[Row<Entry>], b: &[Row<Entry>]) -> bool
-    ensures { Decides result (a.now ≡ b.now) }
-{
-    if a.len() != b.len() {
-        return false;
-    }
-    for i in 0..a.len() {
-        if !same_row(&a[i], &b[i]) {
-            return false;
-        }
-    }
-    true
-}
-
-// Refuses rows that are not exactly those of a text, which may have as many as the table; they are read
-// into it. Rows of a text rise.
-fn check_same(
-    text: &[u8],
-    rows: &[Row<Entry>],
-    table: &mut [Row<Entry>],
-) -> Result<(), ManifestFault>
-    ensures { MatchResult result (λ _. (indexed (length table.old) text.now ≡ Ok (rows_of rows.now)) × (ascending (rows_of rows.now) ≡ true)) (λ f. Refused (rows_of rows.now) (indexed (length table.old) text.now) f) }
-{
-    let count = index(text, table)?;
-    if !same_rows(&table[0..count], rows) {
-        return Err(ManifestFault {
-            at: 0,
-            cause: Cause::OtherRows,
-        });
-    }
-    Ok(())
-}
-
-// The rows, if they are exactly those of the text.
+// The rows, if they are exactly those of the text. Rows of a text rise.
 fn check_rows<'a>(text: &[u8], rows: &'a [Row<Entry>]) -> Result<Sorted<'a, Entry>, ManifestFault>
     ensures { MatchResult result (λ s. (indexed (length rows.now) text.now ≡ Ok (rows_of rows.now)) × (kept s ≡ rows_of rows.now)) (λ f. Refused (rows_of rows.now) (indexed (length rows.now) text.now) f) }
 {
-    let mut table = [blank_row(); 1024];
-    let lent = rows.len().min(1024);
-    check_same(text, rows, &mut table[0..lent])?;
-    match Sorted::new(rows) {
-        Some(sorted) => Ok(sorted),
-        None => Err(ManifestFault {
-            at: 0,
-            cause: Cause::OtherRows,
-        }),
+    let mut reader = Reader::new(rows.len());
+    reader.read(text)?;
+    if reader.rows() != rows {
+        return Err(OTHER_ROWS);
     }
+    Sorted::new(rows).ok_or(OTHER_ROWS)
 }
 
 impl<'a> Manifest<'a> {
@@ -100,8 +49,7 @@ impl<'a> Manifest<'a> {
     pub fn load(&mut self, text: &[u8], rows: &'a [Row<Entry>]) -> Result<(), ManifestFault>
         ensures { MatchResult result (λ _. (indexed (length rows.now) text.now ≡ Ok (rows_of rows.now)) × (kept self.new.rows ≡ rows_of rows.now)) (λ f. Refused (rows_of rows.now) (indexed (length rows.now) text.now) f × (self.new ≡ self.old)) }
     {
-        let rows = check_rows(text, rows)?;
-        self.rows = rows;
+        self.rows = check_rows(text, rows)?;
         Ok(())
     }
 }
@@ -110,10 +58,7 @@ impl Store for Manifest<'_> {
     ghost stored = { λ m. record { rows = kept m.rows; ok = m.built } };
 
     fn entry(&self, path: &Path) -> Option<Entry> {
-        match self.rows.find(path) {
-            Some(entry) => Some(*entry),
-            None => None,
-        }
+        self.rows.find(path).copied()
     }
 
     fn child_after(&self, path: &Path, after: &[u8]) -> Option<Path> {

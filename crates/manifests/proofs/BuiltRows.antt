@@ -1,7 +1,7 @@
 -- The rows that a text gives make a tree. Assumes nothing.
-use Rattle.std.proofs.Common.{◌≡◌, ℕ, ◌+◌, ◌-◌, ◌*◌, ◌^◌, ◌<◌, ◌≤◌, min, Bool, true, false, cond, not, ◌&&◌, ◌||◌, eqb, ltb, leb, List, [], ◌∷◌, ◌++◌, length, drop, is_some, is_ok, Some, None, Ok, Err, Option, Result, sym, refl, ap, ◌∙◌, subst, inl, inr, ⊎_elim, mul_assoc, mul-one, arith}
+use Rattle.std.proofs.Common.{◌≡◌, ℕ, ◌+◌, ◌-◌, ◌*◌, ◌^◌, ◌<◌, ◌≤◌, min, Bool, true, false, cond, not, ◌&&◌, ◌||◌, eqb, ltb, leb, List, [], ◌∷◌, ◌++◌, length, drop, is_some, Some, None, Ok, Err, Option, Result, sym, refl, ap, ◌∙◌, subst, inl, inr, ⊎_elim, mul_assoc, mul-one, arith}
 use native.Mathlib.Nat.{pow-zero, pow-succ'}
-use Rattle.std.proofs.lemmas.Bool.{true≢false, and_parts, and_from, not_from_false, ltb-true, leb-true, eqb-true, le-leb, lt-ltb}
+use Rattle.std.proofs.lemmas.Bool.{and_parts, and_from, not_from_false, ltb-true, leb-true, eqb-true, le-leb, lt-ltb}
 use Rattle.paths.specs.declared.PathFault.{PathFault}
 use Rattle.paths.specs.Names.{split, join, fault_in, fault, judge, judged, same, parent, begins}
 use Rattle.paths.specs.Pieces.{front, later, pieces}
@@ -22,33 +22,28 @@ use Rattle.mtree.specs.Numbers.{below, digit_value, numeral_from, numeral, mode_
 use Rattle.mtree.specs.Lexed.{tail}
 use Rattle.mtree.specs.Keywords.{type_name, mode_name, size_name, content_name, dir_word, file_word, expected, valued, number, no_more, dir_of, file_of, typed, entry_of}
 use Rattle.manifests.specs.Lasts.{Built}
+use Rattle.manifests.specs.Laws.{IndexMakesTree}
 use Rattle.manifests.specs.Manifests.{rises, under_dir, placed, row_of_line, fault_at, positioned, rows_from, header, indexed}
 use Rattle.manifests.proofs.Placing.{some-dir}
 use Rattle.manifests.proofs.Placing.{in_right}
 
 -- ---- steps that did not refuse
 
-refused : {A E P : Type 0} (e : E) (a : A) → ◌≡◌ {A = Result A E} (Err e) (Ok a) → P
-refused e a h = absurd (true≢false (sym (ap is_ok h)))
-
-nothing : {A P : Type 0} (a : A) → ◌≡◌ {A = Option A} None (Some a) → P
-nothing a h = absurd (true≢false (sym (ap is_some h)))
-
 pub then_ok : {A B E : Type 0} (r : Result A E) (go : A → Result B E) (b : B) → and_then r go ≡ Ok b → (a : A) × (r ≡ Ok a) × (go a ≡ Ok b)
 then_ok (Ok a) go b h = (a, refl, h)
-then_ok (Err e) go b h = refused e b h
+then_ok (Err e) go b h = cc
 
 then_some : {A B : Type 0} (o : Option A) (go : A → Option B) (b : B) → and_then_some o go ≡ Some b → (a : A) × (o ≡ Some a) × (go a ≡ Some b)
-then_some None go b h = nothing b h
+then_some None go b h = cc
 then_some (Some a) go b h = (a, refl, h)
 
 pub if_ok : {A E : Type 0} (t : Bool) (r : Result A E) (e : E) (a : A) → cond t r (Err e) ≡ Ok a → (t ≡ true) × (r ≡ Ok a)
 if_ok true r e a h = (refl, h)
-if_ok false r e a h = refused e a h
+if_ok false r e a h = cc
 
 if_some : {A : Type 0} (t : Bool) (o : Option A) (a : A) → cond t o None ≡ Some a → (t ≡ true) × (o ≡ Some a)
 if_some true o a h = (refl, h)
-if_some false o a h = nothing a h
+if_some false o a h = cc
 
 -- ---- a path that is read is good
 
@@ -64,16 +59,16 @@ judged-fine s p h = go (fault s) refl h where
   go None f h =
       let is : split s ≡ p = cc in
       subst (λ z. fine z ≡ true) is (fine-split s f)
-  go (Some e) f h = refused e p h
+  go (Some e) f h = cc
 
 held-ok : (r : Result Names PathFault) (p : Names) → held r ≡ Ok p → r ≡ Ok p
 held-ok (Ok q) p h =
     let is : q ≡ p = cc in
     ap Ok is
-held-ok (Err e) p h = refused _ p h
+held-ok (Err e) p h = cc
 
 word_fine : (o : Option (List ℕ)) (p : Names) → judged_word o ≡ Ok p → fine p ≡ true
-word_fine None p h = refused Word p h
+word_fine None p h = cc
 word_fine (Some s) p h = judged-fine s p (held-ok (judge s) p h)
 
 path_fine : (w : List ℕ) (p : Names) → path_of w ≡ Ok p → fine p ≡ true
@@ -134,7 +129,7 @@ valued-some : (o : Option ℕ) (n : ℕ) → valued o ≡ Ok n → o ≡ Some n
 valued-some (Some m) n h =
     let is : m ≡ n = cc in
     ap Some is
-valued-some None n h = refused Value n h
+valued-some None n h = cc
 
 -- the text that a keyword's number is read from
 number-from : (rule : List ℕ → Option ℕ) (name : List ℕ) (ks : List (List ℕ)) (n : ℕ) → number rule name ks ≡ Ok n → (v : List ℕ) × (rule v ≡ Some n)
@@ -146,7 +141,7 @@ number-from rule name ks n h =
 
 last_is : (ks : List (List ℕ)) (d e : Entry) → no_more ks d ≡ Ok e → d ≡ e
 last_is [] d e h = cc
-last_is (k ∷ ks) d e h = refused _ e h
+last_is (k ∷ ks) d e h = cc
 
 dir-ranged : (ks : List (List ℕ)) (e : Entry) → dir_of ks ≡ Ok e → in_range e ≡ true
 dir-ranged ks e h =
@@ -243,7 +238,7 @@ pub positioned-ok : (pos : ℕ) (o : Result Row Cause) (r : Row) → positioned 
 positioned-ok pos (Ok x) r h =
     let is : x ≡ r = cc in
     ap Ok is
-positioned-ok pos (Err c) r h = refused _ r h
+positioned-ok pos (Err c) r h = cc
 
 same-built : (rows all : List Row) → Built rows → ◌≡◌ {A = Result (List Row) ManifestFault} (Ok rows) (Ok all) → Built all
 same-built rows all b h =
@@ -264,3 +259,6 @@ pub indexed-built : (given : ℕ) (text : List ℕ) (rows : List Row) → indexe
 indexed-built given text rows h =
     let p = if_ok (leb (length text) 65536 && begins header text) (rows_from (min given 1024) 7 [] (pieces 10 (drop 7 text))) (fault_at 0 Header) rows h in
     rows-built (min given 1024) (pieces 10 (drop 7 text)) 7 [] rows refl p.1
+
+pub index_makes_tree : IndexMakesTree
+index_makes_tree = indexed-built

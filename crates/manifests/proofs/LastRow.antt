@@ -1,12 +1,19 @@
 -- What the last row tells of the next path. Assumes nothing.
-use Rattle.std.proofs.Common.{◌≡◌, ℕ, suc, ◌-◌, ◌<◌, Bool, true, false, not, ◌&&◌, ◌||◌, List, [], ◌∷◌, ◌++◌, length, get_or, is_some, Some, None, Decides, Option, sym, refl, ap, ◌∙◌, subst, inl, inr, ⊎_elim, append-nil, arith}
+use Rattle.std.proofs.Common.{◌≡◌, ℕ, ◌-◌, Bool, true, false, not, ◌&&◌, ◌||◌, List, [], ◌∷◌, ◌++◌, length, slice_get, is_some, Bor, Some, None, Decides, Option, sym, refl, ap, ◌∙◌, subst, inl, inr, ⊎_elim, append-nil}
 use Rattle.std.proofs.lemmas.Bool.{true≢false, both_ways, not-true, and_parts, and_from, or_cases, or_left, or_right}
+use native.Mathlib.Numerals.{unary_clauses}
+use Rattle.std.proofs.lemmas.List.{length-map}
+use Rattle.std.proofs.lemmas.Option.{slice_get-map}
+use Rattle.std.specs.Option.{option_map, option_copied}
+use Rattle.std.proofs.lemmas.Bool.Decides.{same_from_decides}
 use Rattle.std.specs.Cmp.{nat_cmp_total}
 use Rattle.std.specs.Ordering.{is_eq, is_le}
 use Rattle.paths.specs.Names.{parent, last_name, Under}
 use Rattle.paths.specs.Order.{by_bytes, by_names}
 use Rattle.paths.proofs.Laws.{itself, bytes-exact, between}
+use Rattle.rows.specs.declared.row.Row.{Row as Stored}
 use Rattle.rows.specs.Maps.{Names, before, at, has, ascending}
+use Rattle.rows.specs.Rows.{row_of, rows_of}
 use Rattle.rows.proofs.Orders.{is-equal, same-is, is_same, before-le, parent-child, as_child}
 use Rattle.rows.proofs.Firsts.{In, head_least, tail-ascends, holds_at, at-holds, child-there}
 use Rattle.trees.specs.declared.entry.Entry.{Entry}
@@ -17,12 +24,17 @@ use Rattle.manifests.specs.Lasts.{Built, last_row, rises_last, within, by_last}
 use Rattle.manifests.specs.Manifests.{rises, under_dir}
 use Rattle.std.specs.Cmp.Lexicographic.{lists_total}
 
-pub last_at : (rows : List Row) (d : Row) → 0 < length rows → last_row rows ≡ Some (get_or rows (length rows - 1) d)
-last_at [] d h = absurd (omega arith)
-last_at (r ∷ []) d h = refl
-last_at (r ∷ s ∷ rs) d h =
-    let e : suc (length (s ∷ rs) - 1) ≡ length (r ∷ s ∷ rs) - 1 = omega arith in
-    last_at (s ∷ rs) d (omega arith) ∙ ap (λ k. Some (get_or (r ∷ s ∷ rs) k d)) e
+last_get : (rows : List Row) → last_row rows ≡ slice_get rows (length rows - 1)
+last_get [] = refl
+last_get (r ∷ []) = refl
+last_get (r ∷ s ∷ rs) = last_get (s ∷ rs) ∙ simp unary_clauses refl
+
+-- what `last` answers of rows in memory
+pub last_of : (o : Option (Bor (Stored Entry))) (rows : List (Stored Entry)) → option_copied o ≡ slice_get rows (length rows - 1) → option_map (λ r. row_of r.now) o ≡ last_row (rows_of rows)
+last_of o rows h = by_copy o ∙ ap (option_map row_of) h ∙ sym (slice_get-map row_of rows (length rows - 1)) ∙ ap (λ n. slice_get (rows_of rows) (n - 1)) (sym (length-map rows row_of)) ∙ sym (last_get (rows_of rows)) where
+  by_copy : (o : Option (Bor (Stored Entry))) → option_map (λ r. row_of r.now) o ≡ option_map row_of (option_copied o)
+  by_copy None = refl
+  by_copy (Some r) = refl
 
 pub rises_by : (rows : List Row) (p : Names) → rises rows p ≡ rises_last (last_row rows) p
 rises_by [] p = refl
@@ -47,6 +59,9 @@ within_more (n ∷ p) rest =
 
 pub within-says : (p q : Names) → Decides (within p q) (Under p q)
 within-says p q = (within-under p q, λ u. ap (within p) u.1 ∙ within_more p u.0)
+
+pub within_is : (p q : Names) (b : Bool) → Decides b (Under p q) → b ≡ within p q
+within_is p q b h = same_from_decides b (within p q) h (within-says p q)
 
 -- ---- the last row is the greatest
 

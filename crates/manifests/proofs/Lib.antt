@@ -12,3 +12,4 @@ pub mod BuiltRows
 pub mod PlacedRow
 pub mod ReadLines
 pub mod Limits
+pub mod Readers

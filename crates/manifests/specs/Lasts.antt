@@ -1,13 +1,11 @@
 -- What the last row alone tells of the next path. Assumes nothing.
-use Rattle.std.specs.Prelude.{◌≡◌, ℕ, ◌<◌, ◌≤◌, Bool, true, false, not, ◌&&◌, ◌||◌, List, [], ◌∷◌, ◌++◌, length, drop, Some, None, Option}
+use Rattle.std.specs.Prelude.{◌≡◌, Bool, true, false, not, ◌&&◌, ◌||◌, List, [], ◌∷◌, Some, None, Option}
 use Rattle.std.specs.Ordering.{is_eq}
 use Rattle.paths.specs.Names.{parent}
 use Rattle.paths.specs.Order.{by_bytes, by_names}
 use Rattle.rows.specs.Maps.{Names, before, ascending}
 use Rattle.trees.specs.declared.entry.Entry.{Entry}
 use Rattle.trees.specs.Entries.{Row, is_dir, closed}
-use Rattle.paths.specs.Pieces.{pieces}
-use Rattle.manifests.specs.Manifests.{rows_from}
 
 -- rows that make a tree
 abbrev pub Built : List Row → Type 0
@@ -37,11 +35,3 @@ abbrev pub by_last : Option Row → Names → Entry → Bool
 by_last o [] e = is_dir (Some e)
 by_last None (n ∷ p) e = false
 by_last (Some r) (n ∷ p) e = parent_dir r (parent (n ∷ p))
-
--- the line at `at` gives the row r, and what is left begins at `next`
-pub record Stepped (limit : ℕ) (text : List ℕ) (at : ℕ) (rows : List Row) (r : Row) (next : ℕ) : Type 0 where
-  pub goes_on : rows_from limit at rows (pieces 10 (drop at text)) ≡ rows_from limit next (rows ++ r ∷ []) (pieces 10 (drop next text))
-  pub ahead : at < next
-  pub inside : next ≤ length text
-  pub room : length rows < limit
-  pub built : Built (rows ++ r ∷ [])

@@ -3,3 +3,4 @@ pub mod Faults
 pub mod Laws
 pub mod Lasts
 pub mod Indexes
+pub mod Readers

@@ -16,8 +16,7 @@ impl fmt::Display for ManifestFault {
     ghost output = { λ f. Some (fields f) };
 
     fn fmt<W: fmt::Write>(&self, f: &mut fmt::Formatter<W>) -> fmt::Result {
-        let at = self.at;
-        let cause = self.cause;
+        let ManifestFault { at, cause } = self;
         write!(f, "m {at} {cause}")
     }
 }

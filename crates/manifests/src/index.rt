@@ -1,23 +1,16 @@
 // The index of a manifest: one row an entry.
-ghost use Rattle.std.specs.Prelude.{◌≡◌, min, []};
+ghost use Rattle.std.specs.Prelude.{◌≡◌, []};
 ghost use Rattle.rows.specs.Rows.{row_of};
 ghost use Rattle.trees.specs.declared.entry.Entry.TheVariants.{Dir};
 ghost use Rattle.manifests.specs.Indexes.{Indexed};
 
 use crate::fault::ManifestFault;
-use crate::reader::{MOST_ROWS, read_rows};
+use crate::reader::Reader;
 use paths::Path;
 use rows::row::Row;
 use trees::entry::{DirMeta, Entry};
 
-// How many rows a text may have, where `given` are lent.
-pub(crate) fn row_limit(given: usize) -> usize
-    ensures { result ≡ min given 1024 }
-{
-    if given < MOST_ROWS { given } else { MOST_ROWS }
-}
-
-// A row to fill a table with.
+// A row to fill a table with. It is no `Default`: both types are of other crates.
 pub fn blank_row() -> Row<Entry>
     ensures { row_of result ≡ ([], Dir (record { mode = 0 })) }
 {
@@ -31,8 +24,9 @@ pub fn blank_row() -> Row<Entry>
 pub fn index(text: &[u8], rows: &mut [Row<Entry>]) -> Result<usize, ManifestFault>
     ensures { Indexed text.now rows.old rows.new result }
 {
-    let mut table = [blank_row(); 1024];
-    let count = read_rows(text, row_limit(rows.len()), &mut table)?;
-    rows[0..count].copy_from_slice(&table[0..count]);
-    Ok(count)
+    let mut reader = Reader::new(rows.len());
+    reader.read(text)?;
+    let read = reader.rows();
+    rows[..read.len()].copy_from_slice(read);
+    Ok(read.len())
 }

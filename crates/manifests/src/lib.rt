@@ -2,8 +2,7 @@
 
 #![tactic(auto)]
 
-mod admit;
 pub mod fault;
 pub mod index;
-mod reader;
+pub mod reader;
 pub mod theorems;

@@ -6,5 +6,5 @@ use Rattle.base.proofs.Manifest.load.Goals as goal
 
 pub invariant_of-self : goal.invariant_of-self
 invariant_of-self c =
-    let said = c.in_ok-rows.ensures in
+    let said = c.in_ok-self.ensures in
     record { built = subst Built (sym said.1) (indexed-built (length c.args.rows.now) c.args.text.now (rows_of c.args.rows.now) said.0) }

@@ -1,9 +1,36 @@
-use Rattle.std.proofs.lemmas.Bool.{both_ways}
+use Rattle.std.proofs.Common.{◌≡◌, List, length, true, false, not, Some, None, Ok, Option, Result, sym, refl, ap, ◌∙◌, MatchOption, MatchResult}
+use Rattle.std.proofs.lemmas.Bool.{both_ways, and_parts, false≢true}
+use Rattle.std.specs.Option.{ok_or}
+use Rattle.rows.specs.declared.row.Row.{Row as Stored}
+use Rattle.manifests.specs.declared.fault.ManifestFault.{ManifestFault}
+use Rattle.rows.specs.declared.sorted.Sorted.{Sorted}
 use Rattle.rows.specs.Maps.{ascending}
 use Rattle.rows.specs.Rows.{rows_of}
+use Rattle.rows.specs.Sorts.{kept}
+use Rattle.trees.specs.declared.entry.Entry.{Entry}
+use Rattle.trees.specs.Entries.{Row, closed}
+use Rattle.words.specs.declared.fault.Cause.TheVariants.{OtherRows}
+use Rattle.manifests.specs.Manifests.{rows_in, indexed, fault_at}
+use Rattle.manifests.proofs.BuiltRows.{indexed-built}
+use Rattle.base.specs.Loads.{Refused}
+use Rattle.base.proofs.SameRows.{rows_ne}
 use Rattle.base.proofs.loading.check_rows.Goals as goal
 
--- rows that are those of the text do rise
-pub returns-in-None : goal.returns-in-None
-returns-in-None c =
-    absurd (both_ways (ascending (rows_of c.args.rows.now)) c.in-None.ensures c.in_ok-check_same.ensures.1)
+pub returns-then-ne : goal.returns-then-ne
+returns-then-ne c =
+    let same = rows_ne c.rows.result.now c.args.rows.now c.ne.result c.ne.ensures in
+    let said = ap (λ n. rows_in n c.args.text.now) (sym c.new-reader.ensures.limit) ∙ c.in_ok-read.ensures.rows ∙ ap Ok (sym c.rows.ensures.rows) in
+    rw said (refl, λ e. false≢true (ap not (sym c.if-ne.true) ∙ same.1 e))
+
+-- rows that are those of the text do rise, so that they are taken
+taken : (rows : List (Stored Entry)) (o : Option (Sorted Entry)) (f : ManifestFault) (said : Result (List Row) ManifestFault) → said ≡ Ok (rows_of rows) → ascending (rows_of rows) ≡ true → MatchOption o (ascending (rows_of rows) ≡ false) (λ s. (ascending (rows_of rows) ≡ true) × (s.rows.now ≡ rows)) → MatchResult (ok_or o f) (λ s. (said ≡ Ok (rows_of rows)) × (kept s ≡ rows_of rows)) (λ g. Refused (rows_of rows) said g)
+taken rows None f said is a h = absurd (both_ways (ascending (rows_of rows)) h a)
+taken rows (Some s) f said is a h = (is, ap rows_of h.1)
+
+pub returns : goal.returns
+returns c =
+    let given = c.args.rows.now in
+    let same = rows_ne c.rows.result.now given c.ne.result c.ne.ensures in
+    let said = ap (λ n. rows_in n c.args.text.now) (sym c.new-reader.ensures.limit) ∙ c.in_ok-read.ensures.rows ∙ ap Ok (sym c.rows.ensures.rows ∙ same.0 (ap not c.if-ne.false)) in
+    let built = indexed-built (length given) c.args.text.now (rows_of given) said in
+    rw c.ok_or.ensures.value (taken given c.new.result (fault_at 0 OtherRows) (indexed (length given) c.args.text.now) said (and_parts (ascending (rows_of given)) (closed (rows_of given) (rows_of given)) built).0 c.new.ensures)

@@ -1,0 +1,70 @@
+-- What a line adds to a reader's rows. Assumes nothing.
+use Rattle.std.proofs.Common.{◌≡◌, ◌+◌, ◌<◌, ◌≤◌, List, ℕ, [], ◌∷◌, ◌++◌, length, take, set, cond, ltb, Option, Ok, Err, Result, sym, ap, ◌∙◌, subst, arith}
+use Rattle.std.proofs.lemmas.List.{length-map, length-take-le}
+use Rattle.paths.specs.Paths.{names}
+use Rattle.rows.specs.declared.row.Row.{Row as Stored}
+use Rattle.rows.specs.Rows.{row_of, rows_of}
+use Rattle.trees.specs.declared.entry.Entry.{Entry}
+use Rattle.trees.specs.Entries.{Row}
+use Rattle.words.specs.declared.fault.Cause.{Cause}
+use Rattle.words.specs.declared.fault.Cause.TheVariants.{Order, Parent, TooMany}
+use Rattle.words.specs.Steps.{and_then}
+use Rattle.mtree.specs.Lines.{line_of}
+use Rattle.manifests.specs.declared.reader.Reader.{Reader}
+use Rattle.manifests.specs.Lasts.{Built, last_row, rises_last, by_last}
+use Rattle.manifests.specs.Manifests.{placed, row_of_line}
+use Rattle.manifests.specs.Readers.{so_far, ended, row_of_ended}
+use Rattle.manifests.proofs.BuiltRows.{line-built}
+use Rattle.manifests.proofs.PlacedRow.{placed_by}
+use Rattle.manifests.proofs.ReadLines.{row_line, rows_stored, placed-room}
+
+pub length_so_far : (self : Reader) → length (so_far self) ≡ self.count
+length_so_far self =
+    let wide : length self.table ≡ 1024 = self.wide in
+    let room : self.limit ≤ 1024 = self.room in
+    let fits : self.count ≤ self.limit = self.fits in
+    length-map (take self.count self.table) row_of ∙ length-take-le self.count self.table (omega arith)
+
+-- whether a row may follow, by the last row
+pub placed_in : (self : Reader) (row : Stored Entry) (o : Option Row) → o ≡ last_row (so_far self) → placed self.limit (so_far self) (names row.path) row.value ≡ cond (rises_last o (names row.path)) (cond (by_last o (names row.path) row.value) (cond (ltb (length (so_far self)) self.limit) (Ok (row_of row)) (Err TooMany)) (Err Parent)) (Err Order)
+placed_in self row o is = placed_by self.limit (so_far self) (names row.path) row.value o is self.built
+
+-- one row more, written behind the rows so far
+pub record Taken (self : Reader) (line : List ℕ) (row : Stored Entry) : Type 0 where
+  pub line_says : row_of_ended self.limit (so_far self) line ≡ Ok (row_of row)
+  pub room : self.count < self.limit
+  pub within : self.count < length self.table
+  pub stored : rows_of (take (self.count + 1) (set self.table self.count row)) ≡ so_far self ++ row_of row ∷ []
+  pub built : Built (rows_of (take (self.count + 1) (set self.table self.count row)))
+
+module _ (self : Reader) (line text : List ℕ) (cut : ended line ≡ Ok text) where
+  abbrev row_place : Stored Entry → Result Row Cause
+  row_place row = placed self.limit (so_far self) (names row.path) row.value
+
+  says : row_of_ended self.limit (so_far self) line ≡ and_then (line_of text) (λ r. placed self.limit (so_far self) r.0 r.1)
+  says = ap (λ o. and_then o (λ l. row_of_line self.limit (so_far self) l)) cut ∙ row_line self.limit (so_far self) text
+
+  pub bad_line : (c : Cause) → line_of text ≡ Err c → row_of_ended self.limit (so_far self) line ≡ Err c
+  bad_line c e = says ∙ ap (λ x. and_then x (λ r. placed self.limit (so_far self) r.0 r.1)) e
+
+  module _ (row : Stored Entry) (read : line_of text ≡ Ok (row_of row)) where
+    pub placed_line : row_of_ended self.limit (so_far self) line ≡ row_place row
+    placed_line = says ∙ ap (λ x. and_then x (λ r. placed self.limit (so_far self) r.0 r.1)) read
+
+    pub row_taken : row_place row ≡ Ok (row_of row) → Taken self line row
+    row_taken e =
+        let line_says = placed_line ∙ e in
+        let row_says = sym (ap (λ o. and_then o (λ l. row_of_line self.limit (so_far self) l)) cut) ∙ line_says in
+        let wide : length self.table ≡ 1024 = self.wide in
+        let room : self.limit ≤ 1024 = self.room in
+        let long = length_so_far self in
+        let free = placed-room self.limit (so_far self) (names row.path) row.value (row_of row) e in
+        let within : self.count < length self.table = omega arith in
+        let stored = rows_stored self.table self.count row within in
+        record {
+          line_says = line_says;
+          room = omega arith;
+          within = within;
+          stored = stored;
+          built = subst Built (sym stored) (line-built self.limit (so_far self) text (row_of row) self.built row_says);
+        }
