@@ -23,11 +23,7 @@ impl<'a, V> Sorted<'a, V> {
     pub fn new(rows: &'a [Row<V>]) -> Option<Sorted<'a, V>>
         ensures { MatchOption result (ascending (rows_of rows.now) ≡ false) (λ s. (ascending (rows_of rows.now) ≡ true) × (s.rows.now ≡ rows.now)) }
     {
-        if rising(rows) {
-            Some(Sorted { rows })
-        } else {
-            None
-        }
+        rising(rows).then(|| Sorted::of_rising(rows))
     }
 
     // Rows that are known to rise.
