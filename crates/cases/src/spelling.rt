@@ -10,7 +10,7 @@ fn add_mark(bytes: &mut Vec<u8>, mark: &str) -> Result<(), AllocError> {
                 bytes.extend_from_slice(piece.as_bytes())?;
             }
         }
-        None => bytes.push(mark.parse::<u8>().unwrap_or(0))?,
+        None => bytes.push((mark.parse::<u16>().unwrap_or(0) & 0xff) as u8)?,
     }
     Ok(())
 }

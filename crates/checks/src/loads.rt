@@ -11,6 +11,7 @@ use std::process::Abort;
 use std::test::Fail;
 use trees::entry::{DirMeta, Entry, FileMeta};
 
+// What a case does to the rows. An enum, no closures: the cases stand in a constant.
 #[derive(Clone, Copy)]
 enum Change {
     Keep,

@@ -14,6 +14,7 @@ use Rattle.rows.specs.Tables.{spliced, splices}
 use Rattle.rows.proofs.Built.{told, at-cons, among-has, at_set, ascending_set, ascends-add, ascends-keys, keys_ascend, same_rows, Ascends}
 use Rattle.rows.proofs.Changed.{at-replaced, ascending-replaced, keys-replaced, replaced-none, at-spliced, length-spliced}
 use Rattle.rows.proofs.Unders.{same_swap}
+use Rattle.trees.proofs.Grown.{is_none}
 
 module _ {V : Type 0} where
   -- ---- where the path has a row
@@ -34,12 +35,8 @@ module _ {V : Type 0} where
           (told q p)
           ∙ sym (at-replaced p v rs q)
 
-  no_value : (o : Option V) → is_some o ≡ false → o ≡ None
-  no_value None h = refl
-  no_value (Some v) h = absurd (true≢false h)
-
   pub replaced_absent : (rs : List (Names × V)) (p : Names) (v : V) → has rs p ≡ false → replaced rs p v ≡ rs
-  replaced_absent rs p v h = replaced-none p v rs (no_value (at rs p) h)
+  replaced_absent rs p v h = replaced-none p v rs (is_none (at rs p) h)
 
   pub length-replaced : (rs : List (Names × V)) (p : Names) (v : V) → length (replaced rs p v) ≡ length rs
   length-replaced rs p v =

@@ -8,6 +8,7 @@ use Rattle.rows.proofs.Orders.{last_child}
 use Rattle.rows.proofs.Least.{less, less-trans, child, child-order, Least, least_alike, least_bound, least-from, named, least-child, child-least, ahead}
 use Rattle.rows.proofs.Least as least
 use Rattle.trees.specs.Entries.{Row, closed}
+use Rattle.trees.proofs.Grown.{is_none}
 use Rattle.marks.specs.declared.mark.Mark.{Mark}
 use Rattle.marks.specs.declared.mark.Mark.TheVariants.{Whiteout}
 use Rattle.marks.specs.Marks.{MarkRow, entry_of, stops, cut, unless, see, merged, layered}
@@ -17,10 +18,6 @@ use Rattle.marks.proofs.Merges.{at-merged, ascending-merged, layer_parts, tree_p
 not-not : (b : Bool) → not (not b) ≡ b
 not-not true = refl
 not-not false = refl
-
-none_is : {V : Type 0} (o : Option V) → is_some o ≡ false → o ≡ None
-none_is None h = refl
-none_is (Some v) h = absurd (true≢false h)
 
 shows : {V : Type 0} (b : Bool) (o : Option V) → is_some (unless (not b) o) ≡ (b && is_some o)
 shows true o = refl
@@ -55,7 +52,7 @@ module _ (m : List MarkRow) (e : List Row) (lm : layered m ≡ true) (le : (asce
 
   by_lower : (k : List ℕ) → marked k ≡ false → seen k ≡ lower k
   by_lower k n =
-      ap is_some (at-child k ∙ ap (λ x. see x (unless (not shown) (at e (child p k)))) (none_is (at m (child p k)) n)) ∙ shows shown (at e (child p k))
+      ap is_some (at-child k ∙ ap (λ x. see x (unless (not shown) (at e (child p k)))) (is_none (at m (child p k)) n)) ∙ shows shown (at e (child p k))
 
   by_mark : (k : List ℕ) (x : Mark) → at m (child p k) ≡ Some x → seen k ≡ is_some (entry_of x)
   by_mark k x h = ap is_some (at-child k ∙ ap (λ z. see z (unless (not shown) (at e (child p k)))) h)

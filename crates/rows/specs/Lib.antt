@@ -3,5 +3,4 @@ pub mod Rows
 pub mod Builds
 pub mod Positions
 pub mod Sorts
-pub mod Moves
 pub mod Tables

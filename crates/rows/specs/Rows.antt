@@ -4,10 +4,6 @@ use Rattle.paths.specs.Paths.{names}
 use Rattle.rows.specs.declared.row.Row.{Row}
 use Rattle.rows.specs.Maps.{Names}
 
--- values, each at the path that it says
-abbrev pub keyed : {R : Type 0} → (R → Names) → List R → List (Names × R)
-keyed key rs = map (λ r. (key r, r)) rs
-
 module _ {V : Type 0} where
   abbrev pub row_of : Row V → Names × V
   row_of r = (names r.path, r.value)

@@ -32,26 +32,18 @@ pub fn present<S: Store>(store: &S, path: &Path) -> usize
 }
 
 // Whether a prefix of a path is a file.
-fn barred<S: Store>(store: &S, path: &Path) -> bool
+pub fn barred<S: Store>(store: &S, path: &Path) -> bool
     ensures { result ≡ barred_of (S.Store.stored store.now).rows (prefixes (names path.now)) }
 {
     (0..=path.depth()).any(|k| store.entry(&path.prefix(k)).is_some_and(|e| e.is_file()))
-}
-
-// How many prefixes of a path are present, and whether one of them is a file.
-pub fn way<S: Store>(store: &S, path: &Path) -> (usize, bool)
-    ensures present { result.0 ≡ present_of (S.Store.stored store.now).rows (names path.now) }
-    ensures barred { result.1 ≡ barred_of (S.Store.stored store.now).rows (prefixes (names path.now)) }
-{
-    (present(store, path), barred(store, path))
 }
 
 // Why nothing is told of a path.
 pub fn lost<S: Store>(store: &S, path: &Path) -> Fault
     ensures { result ≡ lost_of (S.Store.stored store.now).rows (names path.now) }
 {
-    let (place, barred) = way(store, path);
-    if barred {
+    let place = present(store, path);
+    if barred(store, path) {
         Fault::NotDirectory(place)
     } else {
         Fault::Missing(place)
