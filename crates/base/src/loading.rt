@@ -13,8 +13,7 @@ use rows::row::Row;
 use rows::sorted::Sorted;
 use trees::entry::Entry;
 use trees::fault::Fault;
-use trees::store;
-use trees::store::Store;
+use trees::store::{self, Store};
 use trees::tree::Tree;
 use words::fault::Cause;
 
@@ -55,7 +54,9 @@ impl<'a> Manifest<'a> {
 }
 
 impl Store for Manifest<'_> {
-    ghost stored = { λ m. record { rows = kept m.rows; ok = m.built } };
+    ghost use Rattle.base.specs.Meant.{entries_of};
+
+    ghost stored = { entries_of };
 
     fn entry(&self, path: &Path) -> Option<Entry> {
         self.rows.find(path).copied()
@@ -67,7 +68,9 @@ impl Store for Manifest<'_> {
 }
 
 impl Tree for Manifest<'_> {
-    ghost entries = { λ m. record { rows = kept m.rows; ok = m.built } };
+    ghost use Rattle.base.specs.Meant.{entries_of};
+
+    ghost entries = { entries_of };
 
     fn look(&self, path: &[u8]) -> Result<Entry, Fault> {
         store::look(self, path)

@@ -8,6 +8,7 @@ use std::io;
 use std::io::Write;
 use trees::tree::Tree;
 
+// What a line asks.
 #[derive(Clone, Copy)]
 pub(crate) enum Question<'a> {
     Look(&'a [u8]),
@@ -40,7 +41,7 @@ fn print_next<T: Tree>(
 // Prints an answer, and the whole buffer after it, of so many bytes and 300 at most.
 fn ask<T: Tree>(rt: &HostRuntime, tree: &T, room: usize, question: Question<'_>) -> io::Result<()> {
     let mut buffer = [b'@'; 300];
-    let buffer = &mut buffer[0..room.min(300)];
+    let buffer = &mut buffer[..room.min(300)];
     match question {
         Question::Look(path) => return print_look(rt, tree, path),
         Question::Next(path, after) => print_next(rt, tree, path, after, buffer)?,

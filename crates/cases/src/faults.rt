@@ -6,6 +6,7 @@ use std::io;
 use trees::fault::Fault;
 use words::fault::Cause;
 
+// The same as in the tests of `checks`, which have the lines beside them.
 const TREES: [Fault; 12] = [
     Fault::Path(PathFault::TooLong),
     Fault::Path(PathFault::BadName(7)),

@@ -25,8 +25,8 @@ pub(crate) fn print_index(rt: &HostRuntime, text: &[u8], given: usize) -> io::Re
     if index(marks, &mut rows).is_ok() {
         rows = [rows[1]; 8];
     }
-    print_answer(rt, index(text, &mut rows[0..given]))?;
-    for row in &rows[0..given] {
+    print_answer(rt, index(text, &mut rows[..given]))?;
+    for row in &rows[..given] {
         rt.stdout().write_all(row.path.as_bytes())?;
         rt.print(" ")?;
         print_entry(rt, row.value)?;
@@ -56,7 +56,7 @@ pub(crate) fn print_load(
     let Ok(count) = index(base, &mut rows) else {
         return rt.println("the base is refused");
     };
-    let some = picked(rt.alloc(), &rows[0..count], digits)?;
+    let some = picked(rt.alloc(), &rows[..count], digits)?;
     let Ok(mut tree) = manifest_tree(base, &mut rows) else {
         return rt.println("the base is refused");
     };

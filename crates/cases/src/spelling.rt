@@ -37,7 +37,7 @@ pub(crate) fn add_rows(
 ) -> io::Result<()> {
     for n in 1000..count.saturating_add(1000) {
         bytes.extend_from_slice(front)?;
-        write!(bytes, "{n}")?;
+        write!(bytes, "{:04}", n % 10000)?;
         bytes.extend_from_slice(back)?;
     }
     Ok(())

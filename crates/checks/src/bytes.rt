@@ -9,7 +9,7 @@ fn escape_of(heap: Global, b: u8) -> Result<String, AllocError> {
 }
 
 fn stands_for_itself(b: u8) -> bool {
-    b.is_ascii_graphic() && b != b'\\' && b != b'#'
+    (33..=126).contains(&b) && b != b'\\' && b != b'#'
 }
 
 // The text of a directory below the root.

@@ -28,7 +28,9 @@ impl Flat {
 }
 
 impl Store for Flat {
-    ghost stored = { λ t. record { rows = listed t.rows; ok = t.built } };
+    ghost use Rattle.flat.specs.Meant.{entries_of};
+
+    ghost stored = { entries_of };
 
     fn entry(&self, path: &Path) -> Option<Entry> {
         self.rows.find(path).copied()
@@ -41,7 +43,9 @@ impl Store for Flat {
 }
 
 impl Tree for Flat {
-    ghost entries = { λ t. record { rows = listed t.rows; ok = t.built } };
+    ghost use Rattle.flat.specs.Meant.{entries_of};
+
+    ghost entries = { entries_of };
 
     fn look(&self, path: &[u8]) -> Result<Entry, Fault> {
         store::look(self, path)

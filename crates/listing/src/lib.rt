@@ -34,6 +34,7 @@ fn write<T: Tree>(tree: &T, buffer: &mut [u8])
     requires { length (listing (T.Tree.entries tree.now).rows) ≤ length buffer.old }
     ensures { buffer.new ≡ listing (T.Tree.entries tree.now).rows ++ drop (length (listing (T.Tree.entries tree.now).rows)) buffer.old }
 {
+    // `end` is a sum of lengths, no index that is counted.
     let mut end = HEADER.len();
     buffer[..end].copy_from_slice(HEADER);
     for line in Lines::of(tree) {

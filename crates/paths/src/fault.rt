@@ -3,6 +3,7 @@ ghost use Rattle.std.specs.Prelude.{Some};
 ghost use Rattle.paths.specs.Faults.{fields};
 
 use crate::PathFault;
+use std::error::Error;
 use std::fmt;
 
 impl fmt::Display for PathFault {
@@ -16,3 +17,5 @@ impl fmt::Display for PathFault {
         }
     }
 }
+
+impl Error for PathFault {}

@@ -13,7 +13,7 @@ mod scan;
 pub mod theorems;
 
 // Why a text is no path.
-#[derive(Clone, Copy, PartialEq, Eq)]
+#[derive(Clone, Copy, PartialEq, Eq, Debug)]
 pub enum PathFault {
     TooLong,
     // The name of that count, from 0, is bad.

@@ -6,8 +6,7 @@
 use anyhow::ensure;
 use reports::report::report_manifest;
 use std::fs::File;
-use std::io;
-use std::io::{ErrorKind, Read, Write};
+use std::io::{self, ErrorKind, Read, Write};
 use std::process::ExitCode;
 
 // One byte more than a manifest may have, so that a longer file is seen to be too long.

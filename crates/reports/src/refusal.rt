@@ -4,11 +4,12 @@ ghost use Rattle.reports.specs.Refusals.{reason_fields, refusal as refusal_of};
 
 use manifests::fault::ManifestFault;
 use std::alloc::{AllocError, Global};
+use std::error::Error;
 use std::fmt;
 use trees::fault::Fault;
 
 // Every kind of fault that a program may have to print.
-#[derive(Clone, Copy, PartialEq, Eq)]
+#[derive(Clone, Copy, PartialEq, Eq, Debug)]
 pub enum Reason {
     Tree(Fault),
     Manifest(ManifestFault),
@@ -24,6 +25,8 @@ impl fmt::Display for Reason {
         }
     }
 }
+
+impl Error for Reason {}
 
 // The line that says what was refused, a file or a call, and why.
 pub fn refusal(heap: Global, subject: &str, reason: Reason) -> Result<String, AllocError>

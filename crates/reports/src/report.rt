@@ -40,7 +40,7 @@ pub fn manifest_tree<'a>(
 {
     let count = index(text, rows)?;
     let mut tree = Manifest::empty();
-    tree.load(text, &rows[0..count])?;
+    tree.load(text, &rows[..count])?;
     Ok(tree)
 }
 

@@ -1,4 +1,4 @@
-// A lent slice of rows that rise strictly in path order.
+// A lent slice of rows that rise strictly in path order. No map: rows are lent, and nothing here may fail for memory.
 ghost use Rattle.std.specs.Prelude.{◌≡◌, true};
 ghost use Rattle.rows.specs.Maps.{ascending};
 ghost use Rattle.rows.specs.Rows.{rows_of};

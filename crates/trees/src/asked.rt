@@ -19,6 +19,7 @@ pub fn entry_at<T: Tree>(tree: &T, path: &Path) -> Option<Entry>
 pub fn child_after<T: Tree>(tree: &T, path: &Path, after: &[u8]) -> Option<Path>
     ensures { option_map names result ≡ child_path (T.Tree.entries tree.now).rows (names path.now) after.now }
 {
+    // `next` writes into its caller's buffer: no heap.
     let mut name = [0; 40];
     let n = tree.next(path.as_bytes(), after, &mut name).ok()??;
     path.child(&name[..n]).ok()

@@ -5,9 +5,10 @@ ghost use Rattle.trees.specs.declared.fault.Fault.TheVariants.{Path as PathFault
 ghost use Rattle.trees.specs.Faults.{fields};
 
 use paths::PathFault;
+use std::error::Error;
 use std::fmt;
 
-#[derive(Clone, Copy, PartialEq, Eq)]
+#[derive(Clone, Copy, PartialEq, Eq, Debug)]
 pub enum Fault {
     // The path is not good.
     Path(PathFault),
@@ -59,3 +60,5 @@ impl fmt::Display for Fault {
         write!(f, "t {cause} {place}")
     }
 }
+
+impl Error for Fault {}

@@ -18,7 +18,7 @@ fn last_to<T>(items: &mut [T], at: usize, count: usize)
 }
 
 impl<V: Copy, const N: usize> Table<V, N> {
-    // Overwrites the value at a path; false, where there is no row.
+    // Overwrites the value at a path; false, where there is no row, as a set answers.
     pub fn replace(&mut self, path: &Path, value: V) -> bool
         ensures answer { result ≡ has (listed self.old) (names path.now) }
         ensures rows { listed self.new ≡ replaced (listed self.old) (names path.now) value }
@@ -32,7 +32,7 @@ impl<V: Copy, const N: usize> Table<V, N> {
     }
 
     // Puts rows in front of the first row that does not come before them; false, where there is no
-    // room for them or the rows would not rise.
+    // room for them or the rows would not rise: no caller tells the two apart.
     pub fn insert(&mut self, new: &[Row<V>]) -> bool
         ensures answer { result ≡ splices N (rows_of new.now) (listed self.old) }
         ensures rows { listed self.new ≡ (if result then spliced (rows_of new.now) (listed self.old) else listed self.old) }
