@@ -1,17 +1,16 @@
 -- What one line adds to the rows. Assumes nothing.
-use Rattle.std.proofs.Common.{◌≡◌, ℕ, suc, ◌+◌, ◌-◌, ◌<◌, ◌≤◌, Bool, true, false, cond, eqb, ltb, min, List, [], ◌∷◌, ◌++◌, length, get_or, take, drop, set, Ok, Err, Result, MatchResult, IsOk, sym, refl, ap, ◌∙◌, subst, ⊎_elim, add-one, drop-cons, arith}
+use Rattle.std.proofs.Common.{◌≡◌, ℕ, suc, ◌+◌, ◌-◌, ◌<◌, ◌≤◌, Bool, true, false, cond, ◌&&◌, eqb, leb, ltb, min, List, [], ◌∷◌, ◌++◌, length, get_or, take, drop, Ok, Err, Result, MatchResult, IsOk, sym, refl, ap, ◌∙◌, subst, ⊎_elim, add-one, drop-cons, arith}
 use native.Mathlib.Nat.{sub-zero}
-use Rattle.std.proofs.lemmas.List.{take_more_set, map_push, take_more, take_at, drop_at, take_all, length-append}
+use Rattle.std.proofs.lemmas.List.{take_more, take_at, drop_at, take_all, length-append}
 use Rattle.std.proofs.lemmas.List.Recursion.{is_position_or_len}
 use Rattle.std.proofs.lemmas.List.Sums.{position_or_len_is}
 use Rattle.std.specs.List.{IsFirstMatchOrLen, position_or_len}
 use Rattle.std.specs.Str.{bytes_eq}
 use Rattle.std.proofs.lemmas.Bool.{cond-true, cond-false, eq-eqb, ne_eqb, eqb-true, ltb-true, true≢false, cases_lt}
+use Rattle.paths.specs.Names.{begins}
 use Rattle.paths.specs.Pieces.{front, later, pieces}
 use Rattle.paths.proofs.Fronts.{later-none, later-some, cut-front}
-use Rattle.rows.specs.declared.row.Row.{Row as Stored}
 use Rattle.rows.specs.Maps.{Names}
-use Rattle.rows.specs.Rows.{row_of, rows_of}
 use Rattle.trees.specs.declared.entry.Entry.{Entry}
 use Rattle.trees.specs.Entries.{Row}
 use Rattle.words.specs.declared.fault.Cause.{Cause}
@@ -21,7 +20,7 @@ use Rattle.words.specs.Steps.{and_then}
 use Rattle.words.specs.Words.{path_of}
 use Rattle.mtree.specs.Keywords.{entry_of}
 use Rattle.mtree.specs.Lines.{line_of}
-use Rattle.manifests.specs.Manifests.{rises, under_dir, placed, row_of_line, fault_at, positioned, rows_from}
+use Rattle.manifests.specs.Manifests.{rises, under_dir, placed, row_of_line, fault_at, positioned, rows_from, header, rows_in}
 use Rattle.manifests.specs.Readers.{ended, row_of_ended}
 
 module _ (limit at : ℕ) (rows : List Row) (s : List ℕ) where
@@ -75,10 +74,6 @@ row_room limit rows l r h = go (path_of (front 32 l)) (entry_of (later 32 l)) h 
   go (Err c) y h = cc
   go (Ok p) (Err c) h = cc
   go (Ok p) (Ok e) h = placed-room limit rows p e r h
-
--- a row stored behind the rows so far
-pub rows_stored : (table : List (Stored Entry)) (n : ℕ) (x : Stored Entry) → n < length table → rows_of (take (n + 1) (set table n x)) ≡ rows_of (take n table) ++ row_of x ∷ []
-rows_stored table n x h = ap rows_of (take_more_set table n x h) ∙ map_push row_of (take n table) x
 
 -- ---- the lines of a text, each with its newline
 
@@ -151,6 +146,10 @@ module _ (limit at : ℕ) (rows : List Row) (s x more : List ℕ) (parts : s ≡
   pub line_taken : (r : Result (Unit {0}) Cause) (new : List Row) (Q : Cause → Type 0) → IsOk r → MatchResult r (λ _. (y : Row) × (row_of_ended limit rows x ≡ Ok y) × (new ≡ rows ++ y ∷ [])) Q → rows_from limit at rows (pieces 10 s) ≡ rows_from limit (at + length x) new (pieces 10 more)
   line_taken (Ok u) new Q ok h = line_turns h.0 h.1 ∙ ap (λ l. rows_from limit (at + length x) l (pieces 10 more)) (sym h.2)
   line_taken (Err e) new Q ok h = absurd (true≢false (sym ok))
+
+pub text_begins : (limit : ℕ) (text : List ℕ) (rows : List Row) → (leb (length text) 65536 && begins header text) ≡ true → rows ≡ [] → rows_in limit text ≡ rows_from limit 7 rows (pieces 10 (drop 7 text))
+text_begins limit text rows h none =
+    cond-true (leb (length text) 65536 && begins header text) _ _ h ∙ ap (λ l. rows_from limit 7 l (pieces 10 (drop 7 text))) (sym none)
 
 pub text_ends : (limit at : ℕ) (rows : List Row) (s : List ℕ) → length s ≡ 0 → rows_from limit at rows (pieces 10 s) ≡ Ok rows
 text_ends limit at rows [] h = rows_end limit at rows [] refl h

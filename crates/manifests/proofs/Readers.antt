@@ -1,6 +1,6 @@
 -- What a line adds to a reader's rows. Assumes nothing.
-use Rattle.std.proofs.Common.{◌≡◌, ◌+◌, ◌<◌, ◌≤◌, List, ℕ, [], ◌∷◌, ◌++◌, length, take, set, cond, ltb, Option, Ok, Err, Result, sym, ap, ◌∙◌, subst, arith}
-use Rattle.std.proofs.lemmas.List.{length-map, length-take-le}
+use Rattle.std.proofs.Common.{◌≡◌, ◌<◌, List, ℕ, [], ◌∷◌, ◌++◌, length, cond, ltb, Option, Ok, Err, Result, sym, ap, ◌∙◌, subst, arith}
+use Rattle.std.proofs.lemmas.List.{length-map, map_push}
 use Rattle.paths.specs.Paths.{names}
 use Rattle.rows.specs.declared.row.Row.{Row as Stored}
 use Rattle.rows.specs.Rows.{row_of, rows_of}
@@ -16,14 +16,7 @@ use Rattle.manifests.specs.Manifests.{placed, row_of_line}
 use Rattle.manifests.specs.Readers.{so_far, ended, row_of_ended}
 use Rattle.manifests.proofs.BuiltRows.{line-built}
 use Rattle.manifests.proofs.PlacedRow.{placed_by}
-use Rattle.manifests.proofs.ReadLines.{row_line, rows_stored, placed-room}
-
-pub length_so_far : (self : Reader) → length (so_far self) ≡ self.count
-length_so_far self =
-    let wide : length self.table ≡ 1024 = self.wide in
-    let room : self.limit ≤ 1024 = self.room in
-    let fits : self.count ≤ self.limit = self.fits in
-    length-map (take self.count self.table) row_of ∙ length-take-le self.count self.table (omega arith)
+use Rattle.manifests.proofs.ReadLines.{row_line, placed-room}
 
 -- whether a row may follow, by the last row
 pub placed_in : (self : Reader) (row : Stored Entry) (o : Option Row) → o ≡ last_row (so_far self) → placed self.limit (so_far self) (names row.path) row.value ≡ cond (rises_last o (names row.path)) (cond (by_last o (names row.path) row.value) (cond (ltb (length (so_far self)) self.limit) (Ok (row_of row)) (Err TooMany)) (Err Parent)) (Err Order)
@@ -32,10 +25,9 @@ placed_in self row o is = placed_by self.limit (so_far self) (names row.path) ro
 -- one row more, written behind the rows so far
 pub record Taken (self : Reader) (line : List ℕ) (row : Stored Entry) : Type 0 where
   pub line_says : row_of_ended self.limit (so_far self) line ≡ Ok (row_of row)
-  pub room : self.count < self.limit
-  pub within : self.count < length self.table
-  pub stored : rows_of (take (self.count + 1) (set self.table self.count row)) ≡ so_far self ++ row_of row ∷ []
-  pub built : Built (rows_of (take (self.count + 1) (set self.table self.count row)))
+  pub room : length self.rows.items < self.limit
+  pub stored : rows_of (self.rows.items ++ row ∷ []) ≡ so_far self ++ row_of row ∷ []
+  pub built : Built (rows_of (self.rows.items ++ row ∷ []))
 
 module _ (self : Reader) (line text : List ℕ) (cut : ended line ≡ Ok text) where
   abbrev row_place : Stored Entry → Result Row Cause
@@ -55,16 +47,12 @@ module _ (self : Reader) (line text : List ℕ) (cut : ended line ≡ Ok text) w
     row_taken e =
         let line_says = placed_line ∙ e in
         let row_says = sym (ap (λ o. and_then o (λ l. row_of_line self.limit (so_far self) l)) cut) ∙ line_says in
-        let wide : length self.table ≡ 1024 = self.wide in
-        let room : self.limit ≤ 1024 = self.room in
-        let long = length_so_far self in
+        let long = length-map self.rows.items row_of in
         let free = placed-room self.limit (so_far self) (names row.path) row.value (row_of row) e in
-        let within : self.count < length self.table = omega arith in
-        let stored = rows_stored self.table self.count row within in
+        let stored = map_push row_of self.rows.items row in
         record {
           line_says = line_says;
           room = omega arith;
-          within = within;
           stored = stored;
           built = subst Built (sym stored) (line-built self.limit (so_far self) text (row_of row) self.built row_says);
         }

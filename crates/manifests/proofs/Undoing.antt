@@ -15,19 +15,19 @@ Bytes bs = All (λ b. b < 256) bs
 within : (a b c : ℕ) → a < b → b < c → (leb (a + 1) b && leb b (c - 1)) ≡ true
 within a b c h g = and_from (leb (a + 1) b) (leb b (c - 1)) (le-leb (a + 1) b (omega arith)) (le-leb b (c - 1) (omega arith))
 
-one : (d : ℕ) → d < 4 → step_of Backslash (48 + d) ≡ To (OneDigit d)
+one : (d : ℕ) → d < 4 → step_of Backslash (48 + d) ≡ Some (To (OneDigit d))
 one d h =
-    cond-true (leb 48 (48 + d) && leb (48 + d) 51) _ _ (within 47 (48 + d) 52 (omega arith) (omega arith)) ∙ ap (λ n. To (OneDigit n)) (omega arith)
+    cond-true (leb 48 (48 + d) && leb (48 + d) 51) _ _ (within 47 (48 + d) 52 (omega arith) (omega arith)) ∙ ap (λ n. Some (To (OneDigit n))) (omega arith)
 
-two : (n d : ℕ) → d < 8 → step_of (OneDigit n) (48 + d) ≡ To (TwoDigits (n * 8 + d))
+two : (n d : ℕ) → d < 8 → step_of (OneDigit n) (48 + d) ≡ Some (To (TwoDigits (n * 8 + d)))
 two n d h =
-    cond-true (octal (48 + d)) _ _ (within 47 (48 + d) 56 (omega arith) (omega arith)) ∙ ap (λ m. To (TwoDigits (n * 8 + m))) (omega arith)
+    cond-true (octal (48 + d)) _ _ (within 47 (48 + d) 56 (omega arith) (omega arith)) ∙ ap (λ m. Some (To (TwoDigits (n * 8 + m)))) (omega arith)
 
-three : (n d : ℕ) → d < 8 → step_of (TwoDigits n) (48 + d) ≡ Out (n * 8 + d)
+three : (n d : ℕ) → d < 8 → step_of (TwoDigits n) (48 + d) ≡ Some (Out (n * 8 + d))
 three n d h =
-    cond-true (octal (48 + d)) _ _ (within 47 (48 + d) 56 (omega arith) (omega arith)) ∙ ap (λ m. Out (n * 8 + m)) (omega arith)
+    cond-true (octal (48 + d)) _ _ (within 47 (48 + d) 56 (omega arith) (omega arith)) ∙ ap (λ m. Some (Out (n * 8 + m))) (omega arith)
 
-itself : (b : ℕ) → printable b ≡ true → step_of Plain b ≡ Out b
+itself : (b : ℕ) → printable b ≡ true → step_of Plain b ≡ Some (Out b)
 itself b e =
     let p = and_parts (leb 33 b) _ e in
     let q = and_parts (leb b 126) _ p.1 in

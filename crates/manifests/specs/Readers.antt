@@ -11,7 +11,7 @@ use Rattle.manifests.specs.Manifests.{row_of_line}
 
 -- the rows of the lines so far
 abbrev pub so_far : Reader → List Row
-so_far r = rows_of (take r.count r.table)
+so_far r = rows_of r.rows.items
 
 -- a line without the newline that it has to end with
 abbrev pub ended : List ℕ → Result (List ℕ) Cause

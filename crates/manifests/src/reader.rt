@@ -1,5 +1,5 @@
 // The rows of a manifest's text, line by line.
-ghost use Rattle.std.specs.Prelude.{◌≡◌, ◌≤◌, ◌&&◌, [], ◌∷◌, ◌++◌, min, length, take, Ok, Err, MatchResult, nat_le};
+ghost use Rattle.std.specs.Prelude.{◌≡◌, ◌≤◌, ◌&&◌, [], ◌∷◌, ◌++◌, min, length, Ok, Err, MatchResult, nat_le};
 ghost use Rattle.paths.specs.Names.{begins};
 ghost use Rattle.rows.specs.Rows.{row_of, rows_of};
 ghost use Rattle.trees.specs.Entries.{Row as Meant};
@@ -8,6 +8,7 @@ ghost use Rattle.manifests.specs.Manifests.{header, rows_in};
 
 use crate::fault::ManifestFault;
 use crate::index::blank_row;
+use arrayvec::ArrayVec;
 use mtree::line::parse_line;
 use rows::row::Row;
 use trees::entry::Entry;
@@ -30,16 +31,14 @@ fn is_header(text: &[u8]) -> bool
 }
 
 // The rows that a text has given so far, which make a tree: at most `limit`.
-// An array and a count: an `ArrayVec` is only made of what has a `Default`, and a row has none.
+// The vector keeps a blank row, which fills the places that hold none.
 #[derive(Drop)]
 pub struct Reader {
-    table: [Row<Entry>; MOST_ROWS],
-    count: usize,
+    rows: ArrayVec<Row<Entry>, MOST_ROWS, Row<Entry>>,
     limit: usize,
-    ghost wide: { length table ≡ 1024 },
     ghost room: { limit ≤ 1024 },
-    ghost fits: { count ≤ limit },
-    ghost built: { Built (rows_of (take count table)) },
+    ghost fits: { length rows.items ≤ limit },
+    ghost built: { Built (rows_of rows.items) },
 }
 
 impl Reader {
@@ -51,8 +50,7 @@ impl Reader {
         ensures limit { result.limit ≡ min given 1024 }
     {
         Reader {
-            table: [blank_row(); MOST_ROWS],
-            count: 0,
+            rows: ArrayVec::new_in(blank_row()),
             limit: given.min(MOST_ROWS),
         }
     }
@@ -62,7 +60,7 @@ impl Reader {
         ensures rows { rows_of result.now ≡ so_far self.now }
         ensures fits { length result.now ≤ self.now.limit }
     {
-        &self.table[..self.count]
+        self.rows.as_slice()
     }
 
     // Takes the row of one more line, which has to end with a newline.
@@ -73,8 +71,7 @@ impl Reader {
         let line = line.strip_suffix(b"\n").ok_or(Cause::Word)?;
         let row = parse_line(line)?;
         self.admit(&row)?;
-        self.table[self.count] = row;
-        self.count += 1;
+        self.rows.push(row);
         Ok(())
     }
 
@@ -89,7 +86,7 @@ impl Reader {
                 cause: Cause::Header,
             });
         }
-        self.count = 0;
+        self.rows.clear();
         let mut at = HEADER.len();
         for line in text[at..].split_inclusive(|byte| *byte == b'\n') {
             self.read_line(line)

@@ -23,16 +23,16 @@ module _ (n : ℕ) (s : List ℕ) (b : ℕ) where
   no_room h (Some l) = ap Some (take-append-le n s (b ∷ l) h ∙ sym (take-append-le n s l h))
 
 module _ (n : ℕ) (s : List ℕ) (t : State) (w : List ℕ) (i : ℕ) (lt : i < length w) where
-  pub after_step : (x : Step) → step_of t (get_or w i 0) ≡ x → after n s t (drop i w) ≡ option_map (λ l. take n (s ++ l)) (onward x (λ v. undone v (drop (i + 1) w)))
+  pub after_step : (x : Option Step) → step_of t (get_or w i 0) ≡ x → after n s t (drop i w) ≡ option_map (λ l. take n (s ++ l)) (onward x (λ v. undone v (drop (i + 1) w)))
   unfolding undone
   after_step x e =
       at_drop_more (after n s t) w i 0 lt ∙ ap (λ x. option_map (λ l. take n (s ++ l)) (onward x (λ v. undone v (drop (i + 1) w)))) e
 
-  pub after_push : (b : ℕ) → step_of t (get_or w i 0) ≡ Out b → after n s t (drop i w) ≡ after n (s ++ b ∷ []) Plain (drop (i + 1) w)
-  after_push b e = after_step (Out b) e ∙ one_more n s b (undone Plain (drop (i + 1) w))
+  pub after_push : (b : ℕ) → step_of t (get_or w i 0) ≡ Some (Out b) → after n s t (drop i w) ≡ after n (s ++ b ∷ []) Plain (drop (i + 1) w)
+  after_push b e = after_step (Some (Out b)) e ∙ one_more n s b (undone Plain (drop (i + 1) w))
 
-  pub after_full : n ≤ length s → (b : ℕ) → step_of t (get_or w i 0) ≡ Out b → after n s t (drop i w) ≡ after n s Plain (drop (i + 1) w)
-  after_full h b e = after_step (Out b) e ∙ no_room n s b h (undone Plain (drop (i + 1) w))
+  pub after_full : n ≤ length s → (b : ℕ) → step_of t (get_or w i 0) ≡ Some (Out b) → after n s t (drop i w) ≡ after n s Plain (drop (i + 1) w)
+  after_full h b e = after_step (Some (Out b)) e ∙ no_room n s b h (undone Plain (drop (i + 1) w))
 
 after_end : (n : ℕ) (s : List ℕ) (t : State) (w : List ℕ) (i : ℕ) → length w ≤ i → after n s t (drop i w) ≡ option_map (λ l. take n (s ++ l)) (finished t)
 unfolding undone

@@ -5,7 +5,7 @@ use Rattle.words.specs.Printable.{printable}
 use Rattle.words.specs.declared.escape.State.{State}
 use Rattle.words.specs.declared.escape.State.TheVariants.{Plain, Backslash, OneDigit, TwoDigits}
 use Rattle.words.specs.declared.escape.Step.{Step}
-use Rattle.words.specs.declared.escape.Step.TheVariants.{To, Out, Bad}
+use Rattle.words.specs.declared.escape.Step.TheVariants.{To, Out}
 
 -- the digits read so far leave room for the next
 abbrev pub Sound : State → Type 0
@@ -17,18 +17,17 @@ Sound (TwoDigits n) = n < 32
 abbrev pub SoundStep : Step → Type 0
 SoundStep (To s) = Sound s
 SoundStep (Out b) = Unit {0}
-SoundStep Bad = Unit {0}
 
 abbrev pub octal : ℕ → Bool
 octal b = nat_le 48 b && nat_le b 55
 
--- what a byte does: outside an escape it stands for itself or begins one; three digits, the first
--- at most 3, make a byte
-abbrev pub step_of : State → ℕ → Step
-step_of Plain b = cond (b == 92) (To Backslash) (cond (printable b) (Out b) Bad)
-step_of Backslash b = cond (nat_le 48 b && nat_le b 51) (To (OneDigit (b - 48))) Bad
-step_of (OneDigit n) b = cond (octal b) (To (TwoDigits (n * 8 + (b - 48)))) Bad
-step_of (TwoDigits n) b = cond (octal b) (Out (n * 8 + (b - 48))) Bad
+-- what a byte does, where it may come: outside an escape it stands for itself or begins one; three
+-- digits, the first at most 3, make a byte
+abbrev pub step_of : State → ℕ → Option Step
+step_of Plain b = cond (b == 92) (Some (To Backslash)) (cond (printable b) (Some (Out b)) None)
+step_of Backslash b = cond (nat_le 48 b && nat_le b 51) (Some (To (OneDigit (b - 48)))) None
+step_of (OneDigit n) b = cond (octal b) (Some (To (TwoDigits (n * 8 + (b - 48))))) None
+step_of (TwoDigits n) b = cond (octal b) (Some (Out (n * 8 + (b - 48)))) None
 
 -- a word may end only outside an escape
 abbrev pub finished : State → Option (List ℕ)
@@ -37,10 +36,10 @@ finished Backslash = None
 finished (OneDigit n) = None
 finished (TwoDigits n) = None
 
-abbrev pub onward : Step → (State → Option (List ℕ)) → Option (List ℕ)
-onward (To s) go = go s
-onward (Out b) go = option_map (λ bs. b ∷ bs) (go Plain)
-onward Bad go = None
+abbrev pub onward : Option Step → (State → Option (List ℕ)) → Option (List ℕ)
+onward None go = None
+onward (Some (To s)) go = go s
+onward (Some (Out b)) go = option_map (λ bs. b ∷ bs) (go Plain)
 
 -- the bytes that the rest of a word stands for
 unfoldable pub undone : State → List ℕ → Option (List ℕ)

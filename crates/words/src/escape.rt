@@ -1,5 +1,5 @@
 // The escape machine: undoes the escapes of a word, byte by byte.
-ghost use Rattle.std.specs.Prelude.{◌≡◌, take};
+ghost use Rattle.std.specs.Prelude.{◌≡◌, take, IfSome};
 ghost use Rattle.std.specs.Option.{option_map};
 ghost use Rattle.words.specs.Escapes.{Sound, SoundStep, step_of, unescaped};
 
@@ -15,20 +15,20 @@ pub enum State {
     TwoDigits(u8),
 }
 
-// What a byte does in a state. `Bad` is no `None`: laws of `manifests` name the steps by these variants.
+// What a byte does in a state.
 #[derive(Clone, Copy)]
 pub enum Step {
     To(State),
     Out(u8),
-    Bad,
 }
 
-fn take_byte(state: State, byte: u8) -> Step
+// No step, where the byte may not come in the state.
+fn take_byte(state: State, byte: u8) -> Option<Step>
     requires { Sound state }
     ensures value { result ≡ step_of state byte }
-    ensures sound { SoundStep result }
+    ensures sound { IfSome result SoundStep }
 {
-    match (state, byte) {
+    Some(match (state, byte) {
         (State::Plain, b'\\') => Step::To(State::Backslash),
         (State::Plain, _) if is_printable(byte) => Step::Out(byte),
         (State::Backslash, b'0'..=b'3') => Step::To(State::OneDigit(byte - b'0')),
@@ -36,8 +36,8 @@ fn take_byte(state: State, byte: u8) -> Step
             high * 8 + (byte - b'0'),
         )),
         (State::TwoDigits(high), b'0'..=b'7') => Step::Out(high * 8 + (byte - b'0')),
-        _ => Step::Bad,
-    }
+        _ => return None,
+    })
 }
 
 // The first 123 bytes that a word stands for. A path and the `./` before it need no more than 122:
@@ -49,7 +49,7 @@ pub(crate) fn unescape(word: &[u8]) -> Option<ArrayVec<u8, 123>>
     let mut state = State::Plain;
     let mut plain = ArrayVec::new();
     for byte in word {
-        state = match take_byte(state, *byte) {
+        state = match take_byte(state, *byte)? {
             Step::To(next) => next,
             Step::Out(made) => {
                 if !plain.is_full() {
@@ -57,7 +57,6 @@ pub(crate) fn unescape(word: &[u8]) -> Option<ArrayVec<u8, 123>>
                 }
                 State::Plain
             }
-            Step::Bad => return None,
         };
     }
     match state {

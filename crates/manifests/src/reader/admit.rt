@@ -56,7 +56,7 @@ impl Reader {
         if !is_under_dir(last, &row.path, row.value) {
             return Err(Cause::Parent);
         }
-        if self.count >= self.limit {
+        if self.rows.len() >= self.limit {
             return Err(Cause::TooMany);
         }
         Ok(())

@@ -1,14 +1,12 @@
-use Rattle.std.proofs.Common.{◌≡◌, ◌&&◌, leb, refl, ◌+◌, ◌∙◌, eqb, MatchResult, IsOk, length, drop, rules, ap, sym, arith}
-use Rattle.std.proofs.lemmas.Bool.{cond-true}
+use Rattle.std.proofs.Common.{◌≡◌, refl, ◌+◌, ◌∙◌, eqb, MatchResult, IsOk, length, drop, rules, ap, sym, arith}
 use Rattle.std.proofs.lemmas.Fn.{always_returns_same}
 use Rattle.std.proofs.lemmas.List.{take_rest, drop-drop, drop_at, length-drop, length-append}
 use Rattle.std.proofs.lemmas.Result.{err_from_is_err_and}
 use Rattle.std.specs.List.{IsFirstMatchOrLen}
 use Rattle.std.specs.Slice.Iter.{split_inclusive_rest}
-use Rattle.paths.specs.Names.{begins}
-use Rattle.manifests.specs.Manifests.{header, fault_at}
+use Rattle.manifests.specs.Manifests.{fault_at}
 use Rattle.manifests.specs.Readers.{so_far}
-use Rattle.manifests.proofs.ReadLines.{line_refused, line_taken, text_ends}
+use Rattle.manifests.proofs.ReadLines.{line_refused, line_taken, text_begins, text_ends}
 use Rattle.manifests.proofs.reader.Reader.read.Goals as goal
 
 pub loop-line-init : goal.loop-line-init
@@ -18,7 +16,7 @@ loop-line-init c =
       rest = ap split_inclusive_rest c.into_iter-line-iterator.ensures.into_iter_gives ∙ c.split_inclusive-line-items.ensures.rest ∙ take_rest text 7;
       within = search rules;
       limit = refl;
-      rows = cond-true (leb (length text) 65536 && begins header text) _ _ (sym c.is_header.ensures ∙ c.if-not-is_header.false);
+      rows = text_begins _ text _ (sym c.is_header.ensures ∙ c.if-not-is_header.false) (search rules);
     }
 
 pub returns-in_err-map_err-clause-rows : goal.returns-in_err-map_err-clause-rows
