@@ -26,8 +26,7 @@ const OTHER_ROWS: ManifestFault = ManifestFault {
 fn check_rows<'a>(text: &[u8], rows: &'a [Row<Entry>]) -> Result<Sorted<'a, Entry>, ManifestFault>
     ensures { MatchResult result (λ s. (indexed (length rows.now) text.now ≡ Ok (rows_of rows.now)) × (kept s ≡ rows_of rows.now)) (λ f. Refused (rows_of rows.now) (indexed (length rows.now) text.now) f) }
 {
-    let mut reader = Reader::new(rows.len());
-    reader.read(text)?;
+    let reader = Reader::read(text, rows.len())?;
     if reader.rows() != rows {
         return Err(OTHER_ROWS);
     }

@@ -45,7 +45,7 @@ const TABLES: [(usize, &str, &str); 8] = [
 ];
 
 fn marks(heap: Global, n: usize) -> Result<Vec<Row<Entry>>, Fail> {
-    let path = Path::parse(b"mark").map_err(Fail::new)?;
+    let path = Path::parse(b"mark")?;
     let value = Entry::File(FileMeta {
         mode: 1,
         size: 2,

@@ -100,7 +100,7 @@ fn look_around(
     cases: &[(&str, &str)],
 ) -> Result<(), Fail> {
     let mut rows = vec![in rt.alloc(); blank_row(); 1024]?;
-    let tree = manifest_tree(text.as_bytes(), rows.as_mut_slice()).map_err(Fail::new)?;
+    let tree = manifest_tree(text.as_bytes(), rows.as_mut_slice())?;
     look_all(rt, &tree, cases)?;
     look_all(rt, &&tree, cases)
 }
@@ -226,7 +226,7 @@ fn step_case<T: Tree>(
 
 fn walk(rt: &(impl Abort + AllocGlobal), text: &str, steps: &[Step<'_>]) -> Result<(), Fail> {
     let mut rows = vec![in rt.alloc(); blank_row(); 1024]?;
-    let tree = manifest_tree(text.as_bytes(), rows.as_mut_slice()).map_err(Fail::new)?;
+    let tree = manifest_tree(text.as_bytes(), rows.as_mut_slice())?;
     for step in steps {
         step_case(rt, &tree, *step)?;
         step_case(rt, &&tree, *step)?;

@@ -87,7 +87,7 @@ const CHANGES: [(Change, &str); 19] = [
 
 fn kit_rows(heap: Global) -> Result<Vec<Row<Entry>>, Fail> {
     let mut rows = vec![in heap; blank_row(); 1024]?;
-    let count = index(KIT.as_bytes(), rows.as_mut_slice()).map_err(Fail::new)?;
+    let count = index(KIT.as_bytes(), rows.as_mut_slice())?;
     rows.truncate(count);
     Ok(rows)
 }
@@ -107,7 +107,7 @@ fn change_rows(rt: &impl Abort, rows: &mut Vec<Row<Entry>>, change: Change) -> R
         }
         Change::Entry(at, entry) => rows.get_mut(at).ok_or("no such row")?.value = entry,
         Change::Path(at, path) => {
-            let path = Path::parse(path.as_bytes()).map_err(Fail::new)?;
+            let path = Path::parse(path.as_bytes())?;
             rows.get_mut(at).ok_or("no such row")?.path = path;
         }
     }
@@ -123,7 +123,7 @@ fn load_said<'a>(
 ) -> Result<String, Fail> {
     let heap = rt.alloc();
     let mut tree = Manifest::empty();
-    tree.load(KIT.as_bytes(), kit).map_err(Fail::new)?;
+    tree.load(KIT.as_bytes(), kit)?;
     let answer = tree.load(text.as_bytes(), rows);
     if answer.is_err() {
         assert_eq!(rt; reported(heap, report_tree(heap, &tree)?)?.as_str(), KIT);

@@ -45,7 +45,7 @@ fn rooms(rt: HostRuntime) -> Result<(), Fail> {
     let heap = rt.alloc();
     for (text, room, said) in ROOMS {
         let mut rows = vec![in heap; blank_row(); 1024]?;
-        let tree = manifest_tree(text.as_bytes(), rows.as_mut_slice()).map_err(Fail::new)?;
+        let tree = manifest_tree(text.as_bytes(), rows.as_mut_slice())?;
         let expected = wanted(heap, text, room, said)?;
         let found = listed_in(heap, &tree, room)?;
         assert_eq!(rt; found.as_str(), expected.as_str(), "{}", room);

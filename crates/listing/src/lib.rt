@@ -14,7 +14,8 @@ use crate::lines::Lines;
 use trees::fault::Fault;
 use trees::tree::Tree;
 
-const HEADER: &[u8] = b"#mtree\n";
+// The first line of a listing, and of a manifest.
+pub const HEADER: &[u8] = b"#mtree\n";
 
 // The length of the listing, where there is room for it.
 #[tactic(auto, using(crate::proofs::Rest::all_told))]

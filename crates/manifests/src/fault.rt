@@ -2,11 +2,12 @@
 ghost use Rattle.std.specs.Prelude.{Some};
 ghost use Rattle.manifests.specs.Faults.{fields};
 
+use std::error::Error;
 use std::fmt;
 use words::fault::Cause;
 
 // A cause, at the position of its line's first byte.
-#[derive(Clone, Copy, PartialEq, Eq)]
+#[derive(Clone, Copy, PartialEq, Eq, Debug)]
 pub struct ManifestFault {
     pub at: usize,
     pub cause: Cause,
@@ -20,3 +21,5 @@ impl fmt::Display for ManifestFault {
         write!(f, "m {at} {cause}")
     }
 }
+
+impl Error for ManifestFault {}

@@ -24,8 +24,7 @@ pub fn blank_row() -> Row<Entry>
 pub fn index(text: &[u8], rows: &mut [Row<Entry>]) -> Result<usize, ManifestFault>
     ensures { Indexed text.now rows.old rows.new result }
 {
-    let mut reader = Reader::new(rows.len());
-    reader.read(text)?;
+    let reader = Reader::read(text, rows.len())?;
     let read = reader.rows();
     rows[..read.len()].copy_from_slice(read);
     Ok(read.len())

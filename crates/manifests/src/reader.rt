@@ -1,14 +1,15 @@
 // The rows of a manifest's text, line by line.
-ghost use Rattle.std.specs.Prelude.{◌≡◌, ◌≤◌, ◌&&◌, [], ◌∷◌, ◌++◌, min, length, Ok, Err, MatchResult, nat_le};
+ghost use Rattle.std.specs.Prelude.{◌≡◌, ◌≤◌, ◌&&◌, [], ◌∷◌, ◌++◌, min, length, Ok, Err, IfOk, MatchResult, nat_le};
 ghost use Rattle.paths.specs.Names.{begins};
 ghost use Rattle.rows.specs.Rows.{row_of, rows_of};
 ghost use Rattle.trees.specs.Entries.{Row as Meant};
 ghost use Rattle.manifests.specs.Lasts.{Built};
-ghost use Rattle.manifests.specs.Manifests.{header, rows_in};
+ghost use Rattle.manifests.specs.Manifests.{header, indexed};
 
 use crate::fault::ManifestFault;
 use crate::index::blank_row;
 use arrayvec::ArrayVec;
+use listing::HEADER;
 use mtree::line::parse_line;
 use rows::row::Row;
 use trees::entry::Entry;
@@ -17,11 +18,9 @@ use words::fault::Cause;
 mod admit;
 
 // The most bytes of a text, and the most entries.
-const MOST_BYTES: usize = 65536;
+pub const MOST_BYTES: usize = 65536;
 
-const MOST_ROWS: usize = 1024;
-
-const HEADER: &[u8] = b"#mtree\n";
+pub const MOST_ROWS: usize = 1024;
 
 // Whether a text is short enough and begins with the line `#mtree`.
 fn is_header(text: &[u8]) -> bool
@@ -30,7 +29,7 @@ fn is_header(text: &[u8]) -> bool
     text.len() <= MOST_BYTES && text.starts_with(HEADER)
 }
 
-// The rows that a text has given so far, which make a tree: at most `limit`.
+// The rows of a text, as far as it is read, which make a tree: at most `limit`.
 // The vector keeps a blank row, which fills the places that hold none.
 #[derive(Drop)]
 pub struct Reader {
@@ -45,7 +44,7 @@ impl Reader {
     ghost use Rattle.manifests.specs.Readers.{so_far, row_of_ended};
 
     // A reader without rows, which takes at most `given`.
-    pub fn new(given: usize) -> Reader
+    fn new(given: usize) -> Reader
         ensures rows { so_far result ≡ [] }
         ensures limit { result.limit ≡ min given 1024 }
     {
@@ -55,7 +54,7 @@ impl Reader {
         }
     }
 
-    // The rows so far.
+    // The rows read.
     pub fn rows(&self) -> &[Row<Entry>]
         ensures rows { rows_of result.now ≡ so_far self.now }
         ensures fits { length result.now ≤ self.now.limit }
@@ -75,10 +74,10 @@ impl Reader {
         Ok(())
     }
 
-    // Takes the rows of a text in place of those it has. After a refusal its rows say nothing of the text.
-    pub fn read(&mut self, text: &[u8]) -> Result<(), ManifestFault>
-        ensures rows { MatchResult result (λ _. rows_in self.old.limit text.now ≡ Ok (so_far self.new)) (λ f. rows_in self.old.limit text.now ≡ Err f) }
-        ensures limit { self.new.limit ≡ self.old.limit }
+    // The rows of a text; no more than `given`, and never more than 1,024.
+    pub fn read(text: &[u8], given: usize) -> Result<Reader, ManifestFault>
+        ensures rows { MatchResult result (λ r. indexed given text.now ≡ Ok (so_far r)) (λ f. indexed given text.now ≡ Err f) }
+        ensures limit { IfOk result (λ r. r.limit ≡ min given 1024) }
     {
         if !is_header(text) {
             return Err(ManifestFault {
@@ -86,13 +85,15 @@ impl Reader {
                 cause: Cause::Header,
             });
         }
-        self.rows.clear();
+        let mut reader = Reader::new(given);
+        // `at` is a sum of lengths, no index that is counted.
         let mut at = HEADER.len();
         for line in text[at..].split_inclusive(|byte| *byte == b'\n') {
-            self.read_line(line)
+            reader
+                .read_line(line)
                 .map_err(|cause| ManifestFault { at, cause })?;
             at += line.len();
         }
-        Ok(())
+        Ok(reader)
     }
 }

@@ -4,13 +4,14 @@
 #![tactic(auto)]
 
 use anyhow::ensure;
+use manifests::reader::MOST_BYTES;
 use reports::report::report_manifest;
 use std::fs::File;
 use std::io::{self, ErrorKind, Read, Write};
 use std::process::ExitCode;
 
 // One byte more than a manifest may have, so that a longer file is seen to be too long.
-const MOST_READ: u64 = 65537;
+const MOST_READ: u64 = MOST_BYTES as u64 + 1;
 
 // The bytes of a file, as far as they are read; none, where there is no such file.
 fn read_file(rt: &HostRuntime, name: &str) -> io::Result<Option<Vec<u8>>> {

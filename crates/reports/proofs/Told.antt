@@ -55,9 +55,3 @@ loads base given rows part f is same why =
     let again = ap (λ (n : ℕ). indexed n base) (sym (length-map rows row_of)) ∙ (index_then_load given base (rows_of rows) is).2 in
     let denies = subst (λ (p : List (Stored Entry)). Refused (rows_of p) (indexed (length p) base) f) same why in
     (subst (λ (t : Result (List Row) ManifestFault). Refused (rows_of rows) t f) again denies).1 refl
-
--- `&rows[0..count]`, of rows that are now `new`
-pub front : (held new : List (Stored Entry)) (count : ℕ) → held ≡ new → take (count - 0) held ≡ take count new
-front held new count same =
-    let all : count - 0 ≡ count = omega arith in
-    ap (λ (n : ℕ). take n held) all ∙ ap (take count) same

@@ -9,6 +9,7 @@ use base::Manifest;
 use listing::list;
 use manifests::fault::ManifestFault;
 use manifests::index::{blank_row, index};
+use manifests::reader::{MOST_BYTES, MOST_ROWS};
 use rows::row::Row;
 use std::alloc::{AllocError, Global};
 use trees::entry::Entry;
@@ -21,7 +22,7 @@ pub type Report = Result<Vec<u8>, String>;
 pub fn report_tree<T: Tree>(heap: Global, tree: &T) -> Result<Report, AllocError>
     ensures { IfOk result (λ o. Lists (T.Tree.entries tree.now).rows o) }
 {
-    let mut buffer = vec![in heap; 0; 65536]?;
+    let mut buffer = vec![in heap; 0; MOST_BYTES]?;
     match list(tree, buffer.as_mut_slice()) {
         Ok(len) => {
             buffer.truncate(len);
@@ -48,7 +49,7 @@ pub fn manifest_tree<'a>(
 pub fn report_manifest(heap: Global, base: &[u8]) -> Result<Report, AllocError>
     ensures { IfOk result (λ o. Reports base.now o) }
 {
-    let mut rows = vec![in heap; blank_row(); 1024]?;
+    let mut rows = vec![in heap; blank_row(); MOST_ROWS]?;
     match manifest_tree(base, rows.as_mut_slice()) {
         Ok(tree) => report_tree(heap, &tree),
         Err(fault) => Ok(Err(refusal(heap, "base.mtree", Reason::Manifest(fault))?)),

@@ -4,9 +4,10 @@ ghost use Rattle.words.specs.declared.fault.Cause.TheVariants.{Path as Faulty};
 ghost use Rattle.words.specs.Faults.{cause_fields};
 
 use paths::PathFault;
+use std::error::Error;
 use std::fmt;
 
-#[derive(Clone, Copy, PartialEq, Eq)]
+#[derive(Clone, Copy, PartialEq, Eq, Debug)]
 pub enum Cause {
     // The text is too long, or does not begin with the line `#mtree`.
     Header,
@@ -55,3 +56,5 @@ impl fmt::Display for Cause {
         write!(f, "{number}")
     }
 }
+
+impl Error for Cause {}

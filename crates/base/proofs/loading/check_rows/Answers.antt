@@ -10,7 +10,7 @@ use Rattle.rows.specs.Sorts.{kept}
 use Rattle.trees.specs.declared.entry.Entry.{Entry}
 use Rattle.trees.specs.Entries.{Row, closed}
 use Rattle.words.specs.declared.fault.Cause.TheVariants.{OtherRows}
-use Rattle.manifests.specs.Manifests.{rows_in, indexed, fault_at}
+use Rattle.manifests.specs.Manifests.{indexed, fault_at}
 use Rattle.manifests.proofs.BuiltRows.{indexed-built}
 use Rattle.base.specs.Loads.{Refused}
 use Rattle.base.proofs.SameRows.{rows_ne}
@@ -19,7 +19,7 @@ use Rattle.base.proofs.loading.check_rows.Goals as goal
 pub returns-then-ne : goal.returns-then-ne
 returns-then-ne c =
     let same = rows_ne c.rows.result.now c.args.rows.now c.ne.result c.ne.ensures in
-    let said = ap (λ n. rows_in n c.args.text.now) (sym c.new-reader.ensures.limit) ∙ c.in_ok-read.ensures.rows ∙ ap Ok (sym c.rows.ensures.rows) in
+    let said = c.in_ok-reader.ensures.rows ∙ ap Ok (sym c.rows.ensures.rows) in
     rw said (refl, λ e. false≢true (ap not (sym c.if-ne.true) ∙ same.1 e))
 
 -- rows that are those of the text do rise, so that they are taken
@@ -31,6 +31,6 @@ pub returns : goal.returns
 returns c =
     let given = c.args.rows.now in
     let same = rows_ne c.rows.result.now given c.ne.result c.ne.ensures in
-    let said = ap (λ n. rows_in n c.args.text.now) (sym c.new-reader.ensures.limit) ∙ c.in_ok-read.ensures.rows ∙ ap Ok (sym c.rows.ensures.rows ∙ same.0 (ap not c.if-ne.false)) in
+    let said = c.in_ok-reader.ensures.rows ∙ ap Ok (sym c.rows.ensures.rows ∙ same.0 (ap not c.if-ne.false)) in
     let built = indexed-built (length given) c.args.text.now (rows_of given) said in
     rw c.ok_or.ensures.value (taken given c.new.result (fault_at 0 OtherRows) (indexed (length given) c.args.text.now) said (and_parts (ascending (rows_of given)) (closed (rows_of given) (rows_of given)) built).0 c.new.ensures)
