@@ -6,7 +6,7 @@ use Rattle.std.specs.List.{list_any, filter, range_with_len}
 use Rattle.paths.specs.Names.{prefixes}
 use Rattle.paths.proofs.Joins.{prefixes_long}
 use Rattle.rows.specs.Maps.{Names, has}
-use Rattle.trees.proofs.Prefixed.{next_prefix}
+use Rattle.paths.proofs.Joins.{next_prefix}
 use Rattle.marks.specs.declared.mark.Mark.{Mark}
 use Rattle.marks.specs.Marks.{MarkRow, below, some_above}
 use Rattle.marks.specs.Edits.{lacking, lacks}

@@ -59,7 +59,8 @@ impl Path {
 
     // The prefixes, from the root to the whole path.
     pub fn prefixes(&self) -> Prefixes<'_>
-        ensures { result ≡ prefixes (names self.now) }
+        ensures value { result ≡ prefixes (names self.now) }
+        ensures bound { length result ≤ 9 }
     {
         Prefixes {
             path: self,

@@ -18,7 +18,7 @@ use Rattle.rows.proofs.Inserts.{spliced-rises}
 use Rattle.trees.specs.declared.entry.Entry.{Entry}
 use Rattle.trees.specs.Entries.{Row}
 use Rattle.trees.proofs.Grown.{grown-rooted}
-use Rattle.trees.proofs.Prefixed.{next_prefix}
+use Rattle.paths.proofs.Joins.{next_prefix}
 use Rattle.marks.specs.declared.mark.Mark.{Mark}
 use Rattle.marks.specs.Marks.{MarkRow, holds, ranged, merged, layered}
 use Rattle.marks.specs.Edits.{lifted, write_at, written, lacks}
