@@ -1,41 +1,36 @@
--- What a chain over the numbers of names says of a path's prefixes. Assumes nothing.
-use Rattle.std.proofs.Common.{◌≡◌, ℕ, zero, suc, ◌+◌, Bool, true, false, cond, not, ◌||◌, List, [], ◌∷◌, length, take, drop, Option, sym, refl, ap, ◌∙◌, add-one, arith}
+-- What a chain over a path's prefixes says of it. Assumes nothing.
+use Rattle.std.proofs.Common.{◌≡◌, ℕ, zero, suc, Bool, true, false, cond, not, ◌||◌, List, [], ◌∷◌, map, length, take, Option, sym, refl, ap, ◌∙◌}
 use Rattle.std.proofs.Math.Bool.{or_assoc, or-false}
-use Rattle.std.proofs.lemmas.List.{drop_all}
-use Rattle.std.specs.List.{list_any, filter, range_with_len}
+use Rattle.std.specs.List.{list_any, filter}
 use Rattle.paths.specs.Names.{prefixes}
-use Rattle.paths.proofs.Joins.{prefixes_long}
 use Rattle.rows.specs.Maps.{Names, has}
-use Rattle.trees.proofs.Prefixed.{next_prefix}
 use Rattle.marks.specs.declared.mark.Mark.{Mark}
 use Rattle.marks.specs.Marks.{MarkRow, below, some_above}
-use Rattle.marks.specs.Edits.{lacking, lacks}
+use Rattle.marks.specs.Edits.{lacking}
 
-later : (f : ℕ → Bool) (a n : ℕ) → list_any f (range_with_len (a + 1) n) ≡ list_any (λ k. f (suc k)) (range_with_len a n)
-later f a zero = refl
-later f a (suc n) = ap (λ z. f z || list_any f (range_with_len (a + 1 + 1) n)) (add-one a) ∙ ap (λ z. f (suc a) || z) (later f (a + 1) n)
+below-first : {A B : Type 0} (f : B → Bool) (g : A → B) (k : ℕ) (xs : List A) → list_any f (take k (map g xs)) ≡ list_any (λ x. f (g x)) (take k xs)
+below-first f g zero xs = refl
+below-first f g (suc k) [] = refl
+below-first f g (suc k) (x ∷ xs) = ap (λ z. f (g x) || z) (below-first f g k xs)
 
-any_from : {N : Type 0} (t : Option Mark → Bool) (p : List N) (b : Bool) (m : List N → Option Mark) → (b || list_any (λ k. t (m (take k p))) (range_with_len 0 (length p))) ≡ some_above t b m p
-any_from t [] b m = or-false b
-any_from t (n ∷ p) b m =
-    ap (λ z. b || (t (m []) || z)) (later (λ k. t (m (take k (n ∷ p)))) 0 (length p))
-    ∙ sym (or_assoc b (t (m [])) (list_any (λ k. t (m (n ∷ take k p))) (range_with_len 0 (length p))))
-    ∙ any_from t p (b || t (m [])) (below m n)
+module _ (t : Option Mark → Bool) where
+  any_from : (p : Names) (b : Bool) (m : Names → Option Mark) → (b || list_any (λ q. t (m q)) (take (length p) (prefixes p))) ≡ some_above t b m p
+  any_from [] b m = or-false b
+  any_from (n ∷ p) b m =
+      ap (λ z. b || (t (m []) || z)) (below-first (λ q. t (m q)) (λ q. n ∷ q) (length p) (prefixes p))
+      ∙ sym (or_assoc b (t (m [])) (list_any (λ q. t (m (n ∷ q))) (take (length p) (prefixes p))))
+      ∙ any_from p (b || t (m [])) (below m n)
 
-pub any_above : {N : Type 0} (t : Option Mark → Bool) (m : List N → Option Mark) (p : List N) → list_any (λ k. t (m (take k p))) (range_with_len 0 (length p)) ≡ some_above t false m p
-any_above t m p = any_from t p false m
+  pub any_above : (m : Names → Option Mark) (p : Names) → list_any (λ q. t (m q)) (take (length p) (prefixes p)) ≡ some_above t false m p
+  any_above m p = any_from p false m
 
-module _ (m : List MarkRow) (p : Names) where
-  one_more : (t : Bool) (k : ℕ) (ks : List ℕ) → length (cond (not t) (k ∷ ks) ks) ≡ cond t (length ks) (suc (length ks))
-  one_more true k ks = refl
-  one_more false k ks = refl
+module _ (m : List MarkRow) where
+  one_more : (t : Bool) (q : Names) (qs : List Names) → length (cond (not t) (q ∷ qs) qs) ≡ cond t (length qs) (suc (length qs))
+  one_more true q qs = refl
+  one_more false q qs = refl
 
-  lacks_from : (n k : ℕ) → k + n ≡ length p + 1 → length (filter (λ j. not (has m (take j p))) (range_with_len k n)) ≡ lacking m (drop k (prefixes p))
-  lacks_from zero k h = sym (ap (lacking m) (drop_all k (prefixes p) (omega (arith, prefixes_long p))))
-  lacks_from (suc n) k h =
-      one_more (has m (take k p)) k (filter (λ j. not (has m (take j p))) (range_with_len (k + 1) n))
-      ∙ ap (λ z. cond (has m (take k p)) z (suc z)) (lacks_from n (k + 1) (omega arith))
-      ∙ sym (ap (lacking m) (next_prefix p k (omega arith)))
-
-  pub lacks_kept : length (filter (λ k. not (has m (take k p))) (range_with_len 0 (length p + 1))) ≡ lacks m p
-  lacks_kept = lacks_from (length p + 1) 0 (omega arith)
+  pub lacking_filter : (qs : List Names) → length (filter (λ q. not (has m q)) qs) ≡ lacking m qs
+  lacking_filter [] = refl
+  lacking_filter (q ∷ qs) =
+      one_more (has m q) q (filter (λ p. not (has m p)) qs)
+      ∙ ap (λ z. cond (has m q) z (suc z)) (lacking_filter qs)

@@ -1,5 +1,5 @@
 // What a layer says of a path.
-ghost use Rattle.std.specs.Prelude.{◌≡◌, ◌≤◌, false, [], length, take};
+ghost use Rattle.std.specs.Prelude.{◌≡◌, ◌≤◌, false, [], length};
 ghost use Rattle.std.specs.Option.{option_map};
 ghost use Rattle.paths.specs.Paths.{names};
 ghost use Rattle.rows.specs.Maps.{at, child_path};
@@ -44,26 +44,23 @@ impl Layer {
         self.rows.sorted().child_after(path, after)
     }
 
-    // The mark at the prefix of `k` names.
-    fn prefix_mark(&self, path: &Path, k: usize) -> Option<Mark>
-        ensures { result ≡ at (marks_of self.now) (take k (names path.now)) }
-    {
-        self.mark(&path.prefix(k))
-    }
-
     // Whether a proper prefix of the path is a whiteout, a file or opaque. One method for this and the
     // next, with the test as a closure, is no plainer: its inner closure needs clauses of its own.
     pub fn cuts(&self, path: &Path) -> bool
         ensures { result ≡ cut (at (marks_of self.now)) (names path.now) }
     {
-        (0..path.depth()).any(|k| self.prefix_mark(path, k).is_some_and(Mark::is_cut))
+        path.prefixes()
+            .take(path.depth())
+            .any(|up| self.mark(&up).is_some_and(Mark::is_cut))
     }
 
     // Whether a proper prefix of the path is opaque.
     pub fn hides(&self, path: &Path) -> bool
         ensures { result ≡ some_above is_opaque false (at (marks_of self.now)) (names path.now) }
     {
-        (0..path.depth()).any(|k| self.prefix_mark(path, k).is_some_and(Mark::is_opaque))
+        path.prefixes()
+            .take(path.depth())
+            .any(|up| self.mark(&up).is_some_and(Mark::is_opaque))
     }
 
     // How many prefixes of the path have no row.
@@ -71,8 +68,6 @@ impl Layer {
         ensures value { result ≡ lacks (marks_of self.now) (names path.now) }
         ensures bound { result ≤ 9 }
     {
-        (0..path.depth() + 1)
-            .filter(|k| self.prefix_mark(path, *k).is_none())
-            .count()
+        path.prefixes().filter(|up| self.mark(up).is_none()).count()
     }
 }

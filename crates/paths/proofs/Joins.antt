@@ -1,6 +1,6 @@
 -- Texts and lists of names. Assumes nothing.
-use Rattle.std.proofs.Common.{◌≡◌, ℕ, zero, suc, ◌+◌, ◌-◌, ◌<◌, ◌≤◌, Bool, true, false, cond, not, ◌&&◌, eqb, leb, ◌⊎◌, List, [], ◌∷◌, ◌++◌, length, get_or, take, is_some, Some, None, sym, refl, ap, ◌∙◌, subst, inl, inr, ⊎_elim, append_assoc, append-nil, add-zero, zero-add, arith}
-use Rattle.std.proofs.lemmas.List.{take_at, length-append, length-map, get_or-map}
+use Rattle.std.proofs.Common.{◌≡◌, ℕ, zero, suc, ◌+◌, ◌-◌, ◌<◌, ◌≤◌, Bool, true, false, cond, not, ◌&&◌, eqb, leb, ◌⊎◌, List, [], ◌∷◌, ◌++◌, length, get_or, take, drop, is_some, Some, None, sym, refl, ap, ◌∙◌, subst, inl, inr, ⊎_elim, append_assoc, append-nil, add-zero, zero-add, arith}
+use Rattle.std.proofs.lemmas.List.{take_at, drop_more, length-append, length-map, get_or-map}
 use Rattle.std.proofs.Math.Seq.{take-nil}
 use Rattle.std.proofs.lemmas.Bool.{and_parts, not-true, cond-true, cond-false, eq-eqb, ne_eqb, eqb-true, eqb-false, leb-true, leb-false, true≢false, le-leb, lt-leb}
 use Rattle.std.specs.List.{AllByRecursion as All}
@@ -292,6 +292,10 @@ prefixes-at [] (suc k) h = absurd (omega arith)
 prefixes-at (n ∷ ns) zero h = refl
 prefixes-at (n ∷ ns) (suc k) h =
     get_or-map (λ p. n ∷ p) (prefixes ns) k [] [] (omega (arith, prefixes_long ns)) ∙ ap (λ l. n ∷ l) (prefixes-at ns k (omega arith))
+
+pub next_prefix : (ns : List (List ℕ)) (k : ℕ) → k < length ns + 1 → drop k (prefixes ns) ≡ take k ns ∷ drop (k + 1) (prefixes ns)
+next_prefix ns k h =
+    drop_more (prefixes ns) k [] (omega (arith, prefixes_long ns)) ∙ ap (λ z. z ∷ drop (k + 1) (prefixes ns)) (prefixes-at ns k (omega arith))
 
 -- ---- what is wrong with one more name
 

@@ -8,6 +8,7 @@ ghost use Rattle.paths.specs.Names.{good};
 pub mod fault;
 mod ops;
 pub mod parts;
+pub mod prefixes;
 pub mod ranks;
 mod scan;
 pub mod theorems;
@@ -22,7 +23,7 @@ pub enum PathFault {
 }
 
 // A good path: its text, with zeros behind it, so that equal paths are equal values. The length stands beside the
-// bytes, and no `ArrayVec` holds them: a path is `Copy`, and what stands behind a vector's items is not fixed.
+// bytes, and no `ArrayVec` holds them: a path is `Copy`.
 #[derive(Clone, Copy)]
 pub struct Path {
     bytes: [u8; 120],

@@ -1,10 +1,10 @@
 // What a path can do.
 ghost use Rattle.std.specs.Prelude.{◌≡◌, ◌+◌, ◌<◌, ◌≤◌, true, [], ◌∷◌, ◌++◌, length, take, Decides, MatchOption};
-ghost use Rattle.paths.specs.Names.{good, parent, last_name, Under, Checked};
-ghost use Rattle.paths.specs.Paths.{text, names, order, Parsed, child_fault, Child};
+ghost use Rattle.paths.specs.Names.{good, parent, prefixes, last_name, Under, Checked};
+ghost use Rattle.paths.specs.Paths.{text, names, Parsed, child_fault, Child};
 
+use crate::prefixes::Prefixes;
 use crate::{Path, PathFault, scan};
-use std::cmp::Ordering;
 
 impl Path {
     // A path of bytes that are known to be good.
@@ -40,13 +40,6 @@ impl Path {
         &self.bytes[..self.len]
     }
 
-    // Path order: name by name.
-    pub fn compare(&self, other: &Path) -> Ordering
-        ensures { result ≡ order self.now other.now }
-    {
-        self.cmp(other)
-    }
-
     // How many names there are.
     pub fn depth(&self) -> usize
         ensures value { result ≡ length (names self.now) }
@@ -62,6 +55,17 @@ impl Path {
         let bytes = self.as_bytes();
         let end = scan::prefix_end(bytes, k);
         Path::of_good(&bytes[..end])
+    }
+
+    // The prefixes, from the root to the whole path.
+    pub fn prefixes(&self) -> Prefixes<'_>
+        ensures value { result ≡ prefixes (names self.now) }
+        ensures bound { length result ≤ 9 }
+    {
+        Prefixes {
+            path: self,
+            depth: 0,
+        }
     }
 
     // The path without its last name; the root has none.

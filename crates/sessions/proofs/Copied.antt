@@ -1,10 +1,10 @@
 -- The rows that a copy-up adds, put among those that are there. Assumes nothing.
-use Rattle.std.proofs.Common.{◌≡◌, ℕ, suc, ◌+◌, ◌<◌, ◌≤◌, Bool, true, false, cond, leb, List, [], ◌∷◌, ◌++◌, length, take, drop, is_some, Some, None, Option, sym, refl, ap, ◌∙◌, subst, inl, inr, ⊎_elim, append_assoc, append-nil, length-append, arith}
-use Rattle.std.proofs.lemmas.List.{take-append-drop, take_all, drop_all}
+use Rattle.std.proofs.Common.{◌≡◌, ℕ, suc, ◌+◌, ◌≤◌, Bool, true, false, cond, leb, List, [], ◌∷◌, ◌++◌, map, length, take, drop, is_some, Some, None, Option, sym, refl, ap, ◌∙◌, subst, inl, inr, ⊎_elim, append_assoc, length-append, arith}
+use Rattle.std.proofs.lemmas.List.{take_all, drop_all}
 use Rattle.std.proofs.lemmas.Bool.{true≢false, and_parts, and_from, cond-true, cond-false, le-leb, cases_Bool}
+use Rattle.std.specs.List.{AllByRecursion as All}
 use Rattle.std.specs.Option.{option_map}
 use Rattle.paths.specs.Names.{prefixes}
-use Rattle.paths.proofs.Joins.{prefixes_long}
 use Rattle.rows.specs.Maps.{Names, at, has, before, above, ascending, under, replaced, or_else}
 use Rattle.rows.specs.Builds.{same, row, build}
 use Rattle.rows.specs.Positions.{lead}
@@ -18,7 +18,6 @@ use Rattle.rows.proofs.Inserts.{spliced-rises}
 use Rattle.trees.specs.declared.entry.Entry.{Entry}
 use Rattle.trees.specs.Entries.{Row}
 use Rattle.trees.proofs.Grown.{grown-rooted}
-use Rattle.trees.proofs.Prefixed.{next_prefix}
 use Rattle.marks.specs.declared.mark.Mark.{Mark}
 use Rattle.marks.specs.Marks.{MarkRow, holds, ranged, merged, layered}
 use Rattle.marks.specs.Edits.{lifted, write_at, written, lacks}
@@ -159,49 +158,54 @@ spliced_last rs r h =
     ∙ ap (λ z. z ++ r ∷ drop (length rs) rs) (take_all (length rs) rs (omega arith))
     ∙ ap (λ z. rs ++ r ∷ z) (drop_all (length rs) rs (omega arith))
 
--- some rows are made, those of the later prefixes are left
-pub record Filled (x : Mark) (m : List MarkRow) (e : List Row) (p : Names) (k : ℕ) (rows : List MarkRow) : Type 0 where
-  pub few : length rows ≤ k
-  pub whole : rows ++ build (fresh_mark x m e p) (drop k (prefixes p)) ≡ fresh_rows x m e p
+-- a prefix of a path has one name more below
+under_more : (n : List ℕ) (q p : Names) → under q p ≡ true → under (n ∷ q) (n ∷ p) ≡ true
+under_more n q p u = let d = under_rest q p u in subst (λ z. under (n ∷ q) (n ∷ z) ≡ true) (sym d.1) (under_goes (n ∷ q) d.0)
 
-module _ (x : Mark) (m : List MarkRow) (e : List Row) (p : Names) (k : ℕ) (rows : List MarkRow) (f : Filled x m e p k rows) (q : Names) (at_k : q ≡ take k p) where
-  next_fresh : k < length p + 1 → build (fresh_mark x m e p) (drop k (prefixes p)) ≡ row q (fresh_mark x m e p q) (build (fresh_mark x m e p) (drop (k + 1) (prefixes p)))
-  next_fresh h = ap (build (fresh_mark x m e p)) (next_prefix p k h) ∙ ap (λ z. row z (fresh_mark x m e p z) (build (fresh_mark x m e p) (drop (k + 1) (prefixes p)))) (sym at_k)
+-- each prefix has the path below it
+all_under : (p : Names) → All (λ q. under q p ≡ true) (prefixes p)
+all_under [] = (refl, tt)
+all_under (n ∷ p) = (refl, go (prefixes p) (all_under p)) where
+  go : (qs : List Names) → All (λ q. under q p ≡ true) qs → All (λ q. under q (n ∷ p) ≡ true) (map (λ q. n ∷ q) qs)
+  go [] h = tt
+  go (q ∷ qs) h = (under_more n q p h.0, go qs h.1)
 
-  pub fill_skip : k < length p + 1 → fresh_mark x m e p q ≡ None → Filled x m e p (k + 1) rows
-  fill_skip h n = record {
-    few = omega (arith, f.few);
-    whole = sym (ap (λ z. rows ++ z) (next_fresh h ∙ ap (λ o. row q o (build (fresh_mark x m e p) (drop (k + 1) (prefixes p)))) n)) ∙ f.whole;
-  }
+-- some rows are made, those of the prefixes that are left are not
+pub record Filled (x : Mark) (m : List MarkRow) (e : List Row) (p : Names) (left : List Names) (rows : List MarkRow) : Type 0 where
+  pub few : length rows + length left ≤ 9
+  pub whole : rows ++ build (fresh_mark x m e p) left ≡ fresh_rows x m e p
+  pub ups : All (λ q. under q p ≡ true) left
 
-  pub fill_more : k < length p + 1 → k < 9 → (y : Mark) → fresh_mark x m e p q ≡ Some y → (ok : Bool) (after : List MarkRow) → ok ≡ splices 9 ((q, y) ∷ []) rows → after ≡ cond ok (spliced ((q, y) ∷ []) rows) rows → Filled x m e p (k + 1) after
-  fill_more h l y n ok after was put =
-      subst (Filled x m e p (k + 1)) (sym (put ∙ cond-true ok _ rows (was ∙ fits) ∙ last))
-      (record { few = omega (arith, f.few, length-append rows (r ∷ [])); whole = append_assoc rows (r ∷ []) left ∙ all }) where
-        r : MarkRow
-        r = (q, y)
+module _ (x : Mark) (m : List MarkRow) (e : List Row) (p : Names) where
+  pub fill_none : (left : List Names) (rows : List MarkRow) → left ≡ prefixes p → length left ≤ 9 → rows ≡ [] → Filled x m e p left rows
+  fill_none left rows is few none = subst (Filled x m e p left) (sym none) (record {
+    few = omega (arith, few);
+    whole = ap (build (fresh_mark x m e p)) is;
+    ups = subst (All (λ q. under q p ≡ true)) (sym is) (all_under p);
+  })
 
-        left : List MarkRow
-        left = build (fresh_mark x m e p) (drop (k + 1) (prefixes p))
+  module _ (left : List Names) (rows : List MarkRow) (f : Filled x m e p left rows) (q : Names) (rest : List Names) (is : left ≡ q ∷ rest) where
+    here : Filled x m e p (q ∷ rest) rows
+    here = subst (λ l. Filled x m e p l rows) is f
 
-        all : rows ++ r ∷ left ≡ fresh_rows x m e p
-        all = sym (ap (λ z. rows ++ z) (next_fresh h ∙ ap (λ o. row q o left) n)) ∙ f.whole
+    pub fill_more : (y : Mark) → fresh_mark x m e p q ≡ Some y → (ok : Bool) (after : List MarkRow) → ok ≡ splices 9 ((q, y) ∷ []) rows → after ≡ cond ok (spliced ((q, y) ∷ []) rows) rows → Filled x m e p rest after
+    fill_more y n ok after was put =
+        subst (Filled x m e p rest) (sym (put ∙ cond-true ok _ rows (was ∙ fits) ∙ last))
+        (record { few = omega (arith, here.few, length-append rows (r ∷ [])); whole = append_assoc rows (r ∷ []) left_rows ∙ all; ups = here.ups.1 }) where
+          r : MarkRow
+          r = (q, y)
 
-        front : (ascending (rows ++ r ∷ []) ≡ true) × (lead r.0 rows ≡ length rows)
-        front = rises_front rows r left (ap ascending all ∙ ascending-build (fresh_mark x m e p) (prefixes p) (ascends-prefixes p))
+          left_rows : List MarkRow
+          left_rows = build (fresh_mark x m e p) rest
 
-        last : spliced (r ∷ []) rows ≡ rows ++ r ∷ []
-        last = spliced_last rows r front.1
+          all : rows ++ r ∷ left_rows ≡ fresh_rows x m e p
+          all = sym (ap (λ o. rows ++ row q o left_rows) n) ∙ here.whole
 
-        fits : splices 9 (r ∷ []) rows ≡ true
-        fits = and_from (leb (length rows + 1) 9) (ascending (spliced (r ∷ []) rows)) (le-leb (length rows + 1) 9 (omega (arith, f.few))) (ap ascending last ∙ front.0)
+          front : (ascending (rows ++ r ∷ []) ≡ true) × (lead r.0 rows ≡ length rows)
+          front = rises_front rows r left_rows (ap ascending all ∙ ascending-build (fresh_mark x m e p) (prefixes p) (ascends-prefixes p))
 
-pub fill_all : (x : Mark) (m : List MarkRow) (e : List Row) (p : Names) (k : ℕ) (rows : List MarkRow) → Filled x m e p k rows → length p + 1 ≤ k → rows ≡ fresh_rows x m e p
-fill_all x m e p k rows f h =
-    sym (append-nil rows)
-    ∙ sym (ap (λ z. rows ++ build (fresh_mark x m e p) z) (drop_all k (prefixes p) (omega (arith, h, prefixes_long p))))
-    ∙ f.whole
+          last : spliced (r ∷ []) rows ≡ rows ++ r ∷ []
+          last = spliced_last rows r front.1
 
--- the prefix of k names has the path below it
-pub under-take : (k : ℕ) (p : Names) → under (take k p) p ≡ true
-under-take k p = ap (under (take k p)) (sym (take-append-drop k p)) ∙ under_goes (take k p) (drop k p)
+          fits : splices 9 (r ∷ []) rows ≡ true
+          fits = and_from (leb (length rows + 1) 9) (ascending (spliced (r ∷ []) rows)) (le-leb (length rows + 1) 9 (omega (arith, here.few))) (ap ascending last ∙ front.0)

@@ -1,6 +1,5 @@
 pub mod Grown
 pub mod Closed
 pub mod Prefixed
-pub mod Ranges
 pub mod Lasts
 pub mod Answering

@@ -26,8 +26,8 @@ pub trait Store {
 pub fn present<S: Store>(store: &S, path: &Path) -> usize
     ensures { result ≡ present_of (S.Store.stored store.now).rows (names path.now) }
 {
-    (0..=path.depth())
-        .filter(|k| store.entry(&path.prefix(*k)).is_some())
+    path.prefixes()
+        .filter(|up| store.entry(up).is_some())
         .count()
 }
 
@@ -35,7 +35,8 @@ pub fn present<S: Store>(store: &S, path: &Path) -> usize
 pub fn barred<S: Store>(store: &S, path: &Path) -> bool
     ensures { result ≡ barred_of (S.Store.stored store.now).rows (prefixes (names path.now)) }
 {
-    (0..=path.depth()).any(|k| store.entry(&path.prefix(k)).is_some_and(|e| e.is_file()))
+    path.prefixes()
+        .any(|up| store.entry(&up).is_some_and(|e| e.is_file()))
 }
 
 // Why nothing is told of a path.

@@ -34,10 +34,8 @@ impl<T: Tree> Session<T> {
     pub(crate) fn fresh_rows(&self, path: &Path, mark: Mark) -> Table<Mark, 9>
         ensures { listed result ≡ fresh_rows mark (marks_in self.now) (rows_below T.Tree.entries self.now) (names path.now) }
     {
-        // A loop: no heap to collect the rows on.
         let mut rows = Table::new(mark);
-        for k in 0..path.depth() + 1 {
-            let above = path.prefix(k);
+        for above in path.prefixes() {
             if let Some(value) = self.fresh_mark(path, mark, &above) {
                 let _ = rows.insert(&[Row { path: above, value }]);
             }

@@ -1,6 +1,8 @@
-use Rattle.std.proofs.Common.{length, take, refl, ◌∙◌, rules, arith}
-use Rattle.std.proofs.lemmas.Iterator.{YieldsList-from_range}
+use Rattle.std.proofs.Common.{length, ◌∙◌, rules}
+use Rattle.std.proofs.lemmas.Iterator.{YieldsList-from_take}
+use Rattle.std.proofs.lemmas.Iterator.Consumers.{YieldsList-from_first}
 use Rattle.std.proofs.lemmas.Iterator.Search.{any_from_yields_List}
+use Rattle.paths.specs.Names.{prefixes}
 use Rattle.paths.specs.Paths.{names}
 use Rattle.rows.specs.Maps.{at}
 use Rattle.marks.specs.Marks.{is_opaque}
@@ -12,4 +14,4 @@ pub returns : goal.returns
 returns c =
     let m = at (marks_of c.args.self.now) in
     let p = names c.args.path.now in
-    any_from_yields_List (λ k. is_opaque (m (take k p))) _ _ c.any.result c.any.ensures.ran (YieldsList-from_range 0 c.depth.result (length p) refl (omega (arith, c.depth.ensures.value))) (λ x b q k. search rules) ∙ any_above is_opaque m p
+    any_from_yields_List (λ q. is_opaque (m q)) _ _ c.any.result c.any.ensures.ran (YieldsList-from_take (length p) (YieldsList-from_first names (λ l. l) (prefixes p) (search rules)) (search rules)) (λ x b q k. search rules) ∙ any_above is_opaque m p
