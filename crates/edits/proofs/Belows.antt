@@ -10,7 +10,7 @@ use Rattle.paths.specs.Paths.{names, text}
 use Rattle.paths.proofs.Joins.{good_parts, join_split, plain-from-fault, Plain}
 use Rattle.rows.specs.Maps.{Names, under, first, at, has, ascending, is_child, without}
 use Rattle.rows.specs.Builds.{same, set_at}
-use Rattle.rows.proofs.Orders.{is_same, parent-child, last_child}
+use Rattle.rows.proofs.Orders.{is_same, parent-child, last_child, some_name}
 use Rattle.rows.proofs.Firsts.{first-none, there, at-holds, child-there}
 use Rattle.rows.proofs.Built.{same_rows, at_set, ascending_set}
 use Rattle.rows.proofs.Changed.{at-without, ascending-only}
@@ -34,10 +34,6 @@ path_fine x = good-fine (text x) x.sound
 named : (p : Names) (n : List ℕ) → Plain (p ++ n ∷ []) → 0 < length n
 named [] n h = h.0.0
 named (m ∷ p) n h = named p n h.1
-
-some_name : (n : List ℕ) → 0 < length n → is_lt (by_bytes [] n) ≡ true
-some_name [] h = absurd (omega arith)
-some_name (x ∷ n) h = refl
 
 -- the last name of a good path is above the empty one
 child-named : (p : Names) (n : List ℕ) → fine (p ++ n ∷ []) ≡ true → is_lt (by_bytes [] n) ≡ true

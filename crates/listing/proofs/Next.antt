@@ -8,7 +8,8 @@ use Rattle.paths.proofs.Laws.{bytes-exact, prefix_first, between}
 use Rattle.paths.proofs.Joins.{plain-from-fault, Plain}
 use Rattle.rows.specs.Maps.{before, first, has, ascending, is_child, is_after}
 use Rattle.trees.specs.Entries.{Row, closed}
-use Rattle.rows.proofs.Orders.{before-le, not_before-same, not_both, le-before, same-is, is_same, shared, parent-child, last_child, as_child, no_name_least, is-less}
+use Rattle.rows.proofs.Orders.{before-le, not_before-same, not_both, le-before, same-is, is_same, shared, parent-child, last_child, as_child, no_name_least, some_name, is-less}
+use Rattle.rows.proofs.Least.{is_child_of, child_passes}
 use Rattle.rows.proofs.Firsts.{In, first_some, first-none, first-least, first-is, first_no, there, at-holds, child-there, in-there}
 use Rattle.trees.proofs.Answering.{fine_parts}
 use Rattle.trees.proofs.Closed.{is-fine, closed-rooted}
@@ -18,10 +19,6 @@ use Rattle.trees.proofs.Closed.{is-fine, closed-rooted}
 name_of : (p : List (List ℕ)) (n : List ℕ) (rest : List (List ℕ)) → Plain (p ++ n ∷ rest) → 0 < length n
 name_of [] n rest h = h.0.0
 name_of (m ∷ p) n rest h = name_of p n rest h.1
-
-some_above : (n : List ℕ) → 0 < length n → is_lt (by_bytes [] n) ≡ true
-some_above [] h = absurd (omega arith)
-some_above (x ∷ n) h = refl
 
 module _ (rs : List Row) (a : ascending rs ≡ true) (c : closed rs rs ≡ true) (p : List (List ℕ)) where
   -- no row after p is at or below q
@@ -47,7 +44,7 @@ module _ (rs : List Row) (a : ascending rs ≡ true) (c : closed rs rs ≡ true)
       go (m ∷ rest) e =
           let f = is-fine rs c x.0 (in-there rs a x i) in
           let g = plain-from-fault 0 x.0 (fine_parts x.0 f).0 in
-          (m, rest, e, some_above m (name_of p m rest (subst Plain e g)))
+          (m, rest, e, some_name m (name_of p m rest (subst Plain e g)))
 
   -- then, for the parent of a prefix that has no more
   pub stands_up : (q : List (List ℕ)) (n : List ℕ) → Under (q ++ n ∷ []) p → Clear (q ++ n ∷ []) → Stands q n
@@ -84,7 +81,7 @@ module _ (rs : List Row) (a : ascending rs ≡ true) (c : closed rs rs ≡ true)
           (q ++ m ∷ [], t.0),
           at-holds rs (q ++ m ∷ []) t.0 t.1,
           refl,
-          and_from (is_eq (by_names (parent (q ++ m ∷ [])) q)) (is_lt (by_bytes n (last_name (q ++ m ∷ [])))) (is_same (parent (q ++ m ∷ [])) q (parent-child q m)) (ap (λ z. is_lt (by_bytes n z)) (last_child q m) ∙ l),
+          child_passes q n m t.0 l,
         )
 
     pub none-clear : first (is_child q n) rs ≡ None → Clear q
@@ -94,19 +91,16 @@ module _ (rs : List Row) (a : ascending rs ≡ true) (c : closed rs rs ≡ true)
         both_ways (is_child q n y.0) (first-none (is_child q n) rs h y.0 y.1) y.3
 
     module _ (r : Row) (h : first (is_child q n) rs ≡ Some r) where
-      tests : (is_eq (by_names (parent r.0) q) ≡ true) × (is_lt (by_bytes n (last_name r.0)) ≡ true)
-      tests = and_parts (is_eq (by_names (parent r.0) q)) (is_lt (by_bytes n (last_name r.0))) (first_some (is_child q n) rs r h).1
+      named : (r.0 ≡ q ++ last_name r.0 ∷ []) × (is_lt (by_bytes n (last_name r.0)) ≡ true)
+      named = is_child_of q n r (first_some (is_child q n) rs r h).1
 
       pub row_is : r.0 ≡ q ++ last_name r.0 ∷ []
-      row_is = go r.0 (same-is (parent r.0) q tests.0) tests.1 where
-        go : (z : List (List ℕ)) → parent z ≡ q → is_lt (by_bytes n (last_name z)) ≡ true → z ≡ q ++ last_name z ∷ []
-        go [] e l = absurd (no_name_least n l)
-        go (m ∷ z) e l = as_child m z ∙ ap (λ y. y ++ last_name (m ∷ z) ∷ []) e
+      row_is = named.0
 
       pub some_next : first (is_after p) rs ≡ Some r
       some_next = first-is (is_after p) rs a r (first_some (is_child q n) rs r h).0 over low where
         over : before p r.0 ≡ true
-        over = subst (λ z. before p z ≡ true) (sym row_is) (s.ahead (last_name r.0) tests.1)
+        over = subst (λ z. before p z ≡ true) (sym row_is) (s.ahead (last_name r.0) named.1)
 
         low : (x : Row) → In rs x → before x.0 r.0 ≡ true → is_after p x ≡ false
         low x i b = go (is_after p x) refl where

@@ -12,6 +12,7 @@ use Rattle.listing.specs.Lines.{line, lines}
 use Rattle.listing.specs.Walks.{from, from_at, texts, left}
 use Rattle.rows.proofs.Orders.{same-is, is_same, not_before_self, not_before-same, before-trans}
 use Rattle.rows.proofs.Firsts.{In, first_some, head_least, tail-ascends, at-holds}
+use Rattle.trees.proofs.Closed.{tree_parts}
 
 is_at-false : (x p : List (List ℕ)) (e : Entry) → before x p ≡ true → is_at p (x, e) ≡ false
 is_at-false x p e b = go (is_at p (x, e)) refl where
@@ -82,5 +83,5 @@ module _ (en : Entries) (o : Option Path) (p : Path) (is : o ≡ Some p) where
 
   pub left-some : (e : Entry) (next : Option Path) (l : List ℕ) → at en.rows (names p) ≡ Some e → option_map names next ≡ path_after en.rows (names p) → l ≡ line (names p) e → left en o ≡ l ∷ left en next
   left-some e next l h n s =
-      let up = (and_parts (ascending en.rows) (closed en.rows en.rows) en.ok).0 in
+      let up = (tree_parts en.rows en.ok).0 in
       ap (left en) is ∙ ap texts (from_row en.rows up (names p) e (at-holds en.rows (names p) e h)) ∙ (λ i. sym s i ∷ texts (from_at (sym n i) en.rows))

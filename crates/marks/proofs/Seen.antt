@@ -1,5 +1,6 @@
 -- The child that is seen behind a name, from the layer's rows and the tree below. Assumes nothing.
 use Rattle.std.proofs.Common.{◌≡◌, ℕ, ◌<◌, Bool, true, false, cond, not, ◌&&◌, ◌||◌, List, is_some, Some, None, Option, sym, refl, ap, ◌∙◌, subst, ⊎_elim}
+use Rattle.std.proofs.Math.Bool.{not-not}
 use Rattle.std.proofs.lemmas.Bool.{true≢false, both_ways}
 use Rattle.std.specs.Option.{option_map}
 use Rattle.paths.specs.Names.{last_name}
@@ -13,11 +14,8 @@ use Rattle.marks.specs.declared.mark.Mark.{Mark}
 use Rattle.marks.specs.declared.mark.Mark.TheVariants.{Whiteout}
 use Rattle.marks.specs.Marks.{MarkRow, entry_of, stops, cut, unless, see, merged, layered}
 use Rattle.marks.proofs.Cuts.{above-child}
-use Rattle.marks.proofs.Merges.{at-merged, ascending-merged, layer_parts, tree_parts}
-
-not-not : (b : Bool) → not (not b) ≡ b
-not-not true = refl
-not-not false = refl
+use Rattle.trees.proofs.Closed.{tree_parts}
+use Rattle.marks.proofs.Merges.{at-merged, ascending-merged, layer_parts}
 
 shows : {V : Type 0} (b : Bool) (o : Option V) → is_some (unless (not b) o) ≡ (b && is_some o)
 shows true o = refl

@@ -18,6 +18,7 @@ use Rattle.rows.specs.Rows.{rows_of}
 use Rattle.rows.specs.Positions.{behind, lead, child_head, child_at}
 use Rattle.rows.proofs.Leads.{is_ahead, asked-at, not_ahead}
 use Rattle.rows.proofs.Orders.{before-le, not_before-same, not_both, same-is, is_same, shared, parent-child, as_child, no_name_least}
+use Rattle.rows.proofs.Least.{is_child_of}
 use Rattle.rows.proofs.Firsts.{In, first_some, first-none, first-least, first-is, first_no, there, at-holds, in-there, child-there}
 use Rattle.rows.proofs.Places.{Clean, clean_path, clean_at, not_before-le, before_then_le, under-place, self_place}
 
@@ -60,15 +61,10 @@ module _ {V : Type 0} where
     go false more = refl
 
   module _ (rs : List (Names × V)) (up : ascending rs ≡ true) (c : rooted rs rs ≡ true) (clean : (x : Names × V) → In rs x → Clean x.0) (p : Names) (a : List ℕ) where
-    is_child_of : (x : Names × V) → is_child p a x ≡ true → (x.0 ≡ p ++ last_name x.0 ∷ []) × (is_lt (by_bytes a (last_name x.0)) ≡ true)
-    is_child_of x t =
-        let d = and_parts (is_eq (by_names (parent x.0) p)) (is_lt (by_bytes a (last_name x.0))) t in
-        (child_of x.0 p (same-is (parent x.0) p d.0) (λ e. no_name_least a (subst (λ z. is_lt (by_bytes a (last_name z)) ≡ true) e d.1)), d.1)
-
     -- a child with a greater name does not come before the place
     child_late : (x : Names × V) → In rs x → is_child p a x ≡ true → not_before (p ++ behind a ∷ []) x ≡ true
     child_late x i t =
-        let d = is_child_of x t in
+        let d = is_child_of p a x t in
         let n = clean_at p (last_name x.0) [] (subst Clean d.0 (clean x i)) in
         not_from_false (before x.0 (p ++ behind a ∷ [])) (ap (λ z. before z (p ++ behind a ∷ [])) d.0 ∙ under-place p a (last_name x.0) [] n ∙ ap is_le ((lists_total nat_cmp_total).antisymm (last_name x.0) a) ∙ under (by_bytes a (last_name x.0)) d.1)
 
@@ -134,7 +130,7 @@ module _ {V : Type 0} where
         no_child x i = go (is_child p a x) refl where
           after : is_child p a x ≡ true → before r.0 x.0 ≡ true → ⊥
           after e l =
-              let d = is_child_of x e in
+              let d = is_child_of p a x e in
               let lo = before-le p r.0 (before_then_le p (p ++ behind a ∷ []) r.0 (self_place p a) (not_before-le r.0 (p ++ behind a ∷ []) late)) in
               no_under (between p r.0 x.0 lo (before-le r.0 x.0 l) (last_name x.0 ∷ [], d.0))
 

@@ -1,5 +1,5 @@
 -- The choice between a row and a child of the tree below. Assumes nothing.
-use Rattle.std.proofs.Common.{◌≡◌, ℕ, Bool, true, false, cond, List, is_some, Some, None, Option, MatchOption, Bor, sym, refl, ap, ◌∙◌}
+use Rattle.std.proofs.Common.{◌≡◌, ℕ, Bool, true, false, cond, not, List, is_some, Some, None, Option, MatchOption, Bor, sym, refl, ap, ◌∙◌}
 use Rattle.std.proofs.lemmas.Bool.{true≢false}
 use Rattle.std.specs.Option.{option_map, option_copied}
 use Rattle.paths.specs.declared.Path.{Path}
@@ -9,7 +9,16 @@ use Rattle.rows.proofs.Firsts.{first_some, in-there}
 use Rattle.marks.specs.declared.mark.Mark.{Mark}
 use Rattle.marks.specs.declared.mark.Mark.TheVariants.{Whiteout, File, Dir, Opaque}
 use Rattle.marks.specs.Marks.{entry_of}
-use Rattle.layers.specs.Choosing.{leads, hidden}
+
+-- there is a path, and it comes before r
+abbrev pub leads : Option Names → Names → Bool
+leads None r = false
+leads (Some l) r = before l r
+
+-- a mark that sets no entry
+abbrev pub hidden : Option Mark → Bool
+hidden None = false
+hidden (Some x) = not (is_some (entry_of x))
 
 -- the child of the tree below, which is asked where it is seen
 pub low_is : {T : Type 0} {P : Bor T → Type 0} (lower : Option (Bor T)) (shown : Bool) (t : T) (low : Option Path) (child : T → Option Names) → option_copied lower ≡ cond shown (Some t) None → MatchOption lower (low ≡ None) P → ((x : Bor T) → P x → option_map names low ≡ child x.now) → option_map names low ≡ cond shown (child t) None
