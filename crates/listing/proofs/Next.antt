@@ -1,6 +1,6 @@
 -- The path that comes next: the first child, or the next sibling of the nearest prefix that has one. Assumes nothing.
 use Rattle.std.proofs.Common.{◌≡◌, ℕ, ◌<◌, Bool, true, false, List, [], ◌∷◌, ◌++◌, length, Some, None, Ordering, Less, Equal, Greater, sym, refl, ap, ◌∙◌, subst, ⊎_elim, append_assoc, append-nil, arith}
-use Rattle.std.proofs.lemmas.Bool.{true≢false, both_ways, and_parts, and_from}
+use Rattle.std.proofs.lemmas.Bool.{true≢false, both_ways, and_parts, and_from, false_from_ne_true}
 use Rattle.std.specs.Ordering.{is_lt, is_eq, is_le, ordering_then}
 use Rattle.paths.specs.Names.{parent, last_name, Under}
 use Rattle.paths.specs.Order.{by_bytes, by_names}
@@ -103,22 +103,18 @@ module _ (rs : List Row) (a : ascending rs ≡ true) (c : closed rs rs ≡ true)
         over = subst (λ z. before p z ≡ true) (sym row_is) (s.ahead (last_name r.0) named.1)
 
         low : (x : Row) → In rs x → before x.0 r.0 ≡ true → is_after p x ≡ false
-        low x i b = go (is_after p x) refl where
-          go : (t : Bool) → is_after p x ≡ t → is_after p x ≡ false
-          go false e = e
-          go true e =
+        low x i b = false_from_ne_true (is_after p x) no where
+          no : is_after p x ≡ true → ⊥
+          no e =
               let u = between q x.0 r.0 (before-le q x.0 (le-before q p x.0 s.below e)) (before-le x.0 r.0 b) (last_name r.0 ∷ [], row_is) in
               let d = s.beyond x i e u in
               let y = child-row x i d.0 d.1 d.2 d.3 in
               let le : is_le (by_names y.0.0 x.0) ≡ true = subst (λ z. is_le (by_names y.0.0 z) ≡ true) (sym (d.2 ∙ sym (append_assoc q (d.0 ∷ []) d.1))) (subst (λ z. is_le (by_names z ((q ++ d.0 ∷ []) ++ d.1)) ≡ true) (sym y.2) (prefix_first (q ++ d.0 ∷ []) d.1)) in
               let lt = le-before y.0.0 x.0 r.0 le b in
-              absurd (⊎_elim (λ w. not_before-same y.0.0 r.0 (ap (λ z. z.0) w) lt) (λ w. not_both y.0.0 r.0 lt w) (first-least (is_child q n) rs a r y.0 h y.1 y.3))
+              ⊎_elim (λ w. not_before-same y.0.0 r.0 (ap (λ z. z.0) w) lt) (λ w. not_both y.0.0 r.0 lt w) (first-least (is_child q n) rs a r y.0 h y.1 y.3)
 
   -- past the root there is nothing
   pub clear_none : Clear [] → first (is_after p) rs ≡ None
   clear_none clear = first_no (is_after p) rs no_more where
     no_more : (x : Row) → In rs x → is_after p x ≡ false
-    no_more x i = go (is_after p x) refl where
-      go : (t : Bool) → is_after p x ≡ t → is_after p x ≡ false
-      go false e = e
-      go true e = absurd (clear x i e (x.0, refl))
+    no_more x i = false_from_ne_true (is_after p x) (λ e. clear x i e (x.0, refl))

@@ -1,6 +1,6 @@
 -- The first child behind a name is the least. Assumes nothing.
 use Rattle.std.proofs.Common.{◌≡◌, ℕ, suc, Bool, true, false, cond, not, ◌⊎◌, List, [], ◌∷◌, ◌++◌, drop, Some, None, Option, slice_get, MatchOption, length, ◌<◌, Ordering, Less, Equal, Greater, sym, refl, ap, ◌∙◌, subst, ⊎_elim, append-nil}
-use Rattle.std.proofs.lemmas.Bool.{true≢false, both_ways, and_parts, and_from, not-true, not_from_false}
+use Rattle.std.proofs.lemmas.Bool.{true≢false, both_ways, and_parts, and_from, not-true, not_from_false, false_from_ne_true}
 use Rattle.std.specs.Cmp.{nat_cmp_total}
 use Rattle.std.specs.Cmp.Lexicographic.{lists_total}
 use Rattle.std.specs.Option.{option_map}
@@ -71,10 +71,7 @@ module _ {V : Type 0} where
     none_late : first (not_before (p ++ behind a ∷ [])) rs ≡ None → first (is_child p a) rs ≡ None
     none_late f = first_no (is_child p a) rs no_child where
       no_child : (x : Names × V) → In rs x → is_child p a x ≡ false
-      no_child x i = go (is_child p a x) refl where
-        go : (t : Bool) → is_child p a x ≡ t → is_child p a x ≡ false
-        go true e = absurd (both_ways (not_before (p ++ behind a ∷ []) x) (first-none (not_before (p ++ behind a ∷ [])) rs f x i) (child_late x i e))
-        go false e = e
+      no_child x i = false_from_ne_true (is_child p a x) (λ e. both_ways (not_before (p ++ behind a ∷ []) x) (first-none (not_before (p ++ behind a ∷ [])) rs f x i) (child_late x i e))
 
     module _ (r : Names × V) (f : first (not_before (p ++ behind a ∷ [])) rs ≡ Some r) where
       inside : In rs r
@@ -102,10 +99,7 @@ module _ {V : Type 0} where
         passes = and_from (is_eq (by_names (parent r.0) p)) (is_lt (by_bytes a (last_name r.0))) t (ap is_lt ((lists_total nat_cmp_total).antisymm a (last_name r.0)) ∙ over (by_bytes (last_name r.0) a) above)
 
         low : (x : Names × V) → In rs x → before x.0 r.0 ≡ true → is_child p a x ≡ false
-        low x i b = go (is_child p a x) refl where
-          go : (t : Bool) → is_child p a x ≡ t → is_child p a x ≡ false
-          go true e = absurd (⊎_elim (λ s. not_before-same x.0 r.0 (ap (λ z. z.0) s) b) (λ l. not_both x.0 r.0 b l) (from_on x i (child_late x i e)))
-          go false e = e
+        low x i b = false_from_ne_true (is_child p a x) (λ e. ⊎_elim (λ s. not_before-same x.0 r.0 (ap (λ z. z.0) s) b) (λ l. not_both x.0 r.0 b l) (from_on x i (child_late x i e)))
 
       -- a row deeper than a child of p has that child before it
       deeper : (m o : List ℕ) (ms : Names) → r.0 ≡ p ++ m ∷ o ∷ ms → ⊥
@@ -127,17 +121,16 @@ module _ {V : Type 0} where
           go (m ∷ o ∷ ms) e = deeper m o ms e
 
         no_child : (x : Names × V) → In rs x → is_child p a x ≡ false
-        no_child x i = go (is_child p a x) refl where
+        no_child x i = false_from_ne_true (is_child p a x) no where
           after : is_child p a x ≡ true → before r.0 x.0 ≡ true → ⊥
           after e l =
               let d = is_child_of p a x e in
               let lo = before-le p r.0 (before_then_le p (p ++ behind a ∷ []) r.0 (self_place p a) (not_before-le r.0 (p ++ behind a ∷ []) late)) in
               no_under (between p r.0 x.0 lo (before-le r.0 x.0 l) (last_name x.0 ∷ [], d.0))
 
-          go : (t : Bool) → is_child p a x ≡ t → is_child p a x ≡ false
-          go true e =
-              absurd (⊎_elim (λ s. both_ways (is_eq (by_names (parent r.0) p)) t (ap (λ z. is_eq (by_names (parent z.0) p)) (sym s) ∙ (and_parts (is_eq (by_names (parent x.0) p)) (is_lt (by_bytes a (last_name x.0))) e).0)) (after e) (from_on x i (child_late x i e)))
-          go false e = e
+          no : is_child p a x ≡ true → ⊥
+          no e =
+              ⊎_elim (λ s. both_ways (is_eq (by_names (parent r.0) p)) t (ap (λ z. is_eq (by_names (parent z.0) p)) (sym s) ∙ (and_parts (is_eq (by_names (parent x.0) p)) (is_lt (by_bytes a (last_name x.0))) e).0)) (after e) (from_on x i (child_late x i e))
 
     least : child_at rs p a ≡ child_path rs p a
     least = head_first p (p ++ behind a ∷ []) rs ∙ go (first (not_before (p ++ behind a ∷ [])) rs) refl where
