@@ -7,7 +7,7 @@ use Rattle.paths.specs.declared.Path.{Path}
 use Rattle.paths.specs.Names.{split, join, fault_in, good, parent, last_name}
 use Rattle.paths.specs.Order.{by_bytes, by_names}
 use Rattle.paths.specs.Paths.{names, text}
-use Rattle.paths.proofs.Joins.{good_parts, join_split, plain-from-fault, Plain}
+use Rattle.paths.proofs.Joins.{good_parts, join_split, plain-from-fault, not_empty}
 use Rattle.rows.specs.Maps.{Names, under, first, at, has, ascending, is_child, without}
 use Rattle.rows.specs.Builds.{same, set_at}
 use Rattle.rows.proofs.Orders.{some_name}
@@ -32,16 +32,12 @@ good-fine s h =
 pub path_fine : (x : Path) → fine (names x) ≡ true
 path_fine x = good-fine (text x) x.sound
 
-named : (p : Names) (n : List ℕ) → Plain (p ++ n ∷ []) → 0 < length n
-named [] n h = h.0.0
-named (m ∷ p) n h = named p n h.1
-
 -- the last name of a good path is above the empty one
 child-named : (p : Names) (n : List ℕ) → fine (p ++ n ∷ []) ≡ true → is_lt (by_bytes [] n) ≡ true
 child-named p n f =
     let q = p ++ n ∷ [] in
     let g = not-true (is_some (fault_in 0 q)) (and_parts (not (is_some (fault_in 0 q))) (leb (length (join q)) 120) f).0 in
-    some_name n (named p n (plain-from-fault 0 q g))
+    some_name n (not_empty p n [] (plain-from-fault 0 q g))
 
 -- ---- no child
 

@@ -5,7 +5,7 @@ use Rattle.std.specs.Ordering.{is_lt, is_eq, is_le, ordering_then}
 use Rattle.paths.specs.Names.{parent, last_name, Under}
 use Rattle.paths.specs.Order.{by_bytes, by_names}
 use Rattle.paths.proofs.Laws.{bytes-exact, prefix_first, between}
-use Rattle.paths.proofs.Joins.{plain-from-fault, Plain}
+use Rattle.paths.proofs.Joins.{plain-from-fault, not_empty, Plain}
 use Rattle.rows.specs.Maps.{before, first, has, ascending, is_child, is_after}
 use Rattle.trees.specs.Entries.{Row, closed}
 use Rattle.rows.proofs.Orders.{before-le, not_before-same, not_both, le-before, same-is, is_same, shared, parent-child, last_child, as_child, no_name_least, some_name, is-less}
@@ -13,12 +13,6 @@ use Rattle.rows.proofs.Least.{is_child_of, child_passes}
 use Rattle.rows.proofs.Firsts.{In, first_some, first-none, first-least, first-is, first_no, there, at-holds, child-there, in-there}
 use Rattle.trees.proofs.Answering.{fine_parts}
 use Rattle.trees.proofs.Closed.{is-fine, closed-rooted}
-
--- ---- names are not empty
-
-name_of : (p : List (List ℕ)) (n : List ℕ) (rest : List (List ℕ)) → Plain (p ++ n ∷ rest) → 0 < length n
-name_of [] n rest h = h.0.0
-name_of (m ∷ p) n rest h = name_of p n rest h.1
 
 module _ (rs : List Row) (a : ascending rs ≡ true) (c : closed rs rs ≡ true) (p : List (List ℕ)) where
   -- no row after p is at or below q
@@ -44,7 +38,7 @@ module _ (rs : List Row) (a : ascending rs ≡ true) (c : closed rs rs ≡ true)
       go (m ∷ rest) e =
           let f = is-fine rs c x.0 (in-there rs a x i) in
           let g = plain-from-fault 0 x.0 (fine_parts x.0 f).0 in
-          (m, rest, e, some_name m (name_of p m rest (subst Plain e g)))
+          (m, rest, e, some_name m (not_empty p m rest (subst Plain e g)))
 
   -- then, for the parent of a prefix that has no more
   pub stands_up : (q : List (List ℕ)) (n : List ℕ) → Under (q ++ n ∷ []) p → Clear (q ++ n ∷ []) → Stands q n

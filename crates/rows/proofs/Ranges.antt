@@ -5,7 +5,7 @@ use mathlib.Core.Bool.{and_assoc}
 use mathlib.Core.List.{map-append}
 use Rattle.std.proofs.lemmas.List.{take-map, drop-map}
 use Rattle.std.proofs.Math.Bool.{and-true}
-use Rattle.std.proofs.lemmas.Bool.{and_parts}
+use Rattle.std.proofs.lemmas.Bool.{and_parts, false_from_ne_true}
 use Rattle.std.proofs.lemmas.Option.{none-some, same_Some}
 use Rattle.std.specs.Bool.{then_some}
 use Rattle.std.specs.Option.{option_copied}
@@ -25,13 +25,9 @@ use Rattle.rows.proofs.Changed.{under-says}
 
 -- what is under a path does not come before it
 pub under_late : (p q : Names) → under p q ≡ true → before q p ≡ false
-under_late p q u = go (before q p) refl where
+under_late p q u = false_from_ne_true (before q p) (λ e. not_before_self p (le-before p q p low e)) where
   low : is_le (by_names p q) ≡ true
   low = let w = (under-says p q).0 u in ap (λ z. is_le (by_names p z)) w.1 ∙ prefix_first p w.0
-
-  go : (t : Bool) → before q p ≡ t → t ≡ false
-  go true e = absurd (not_before_self p (le-before p q p low e))
-  go false e = refl
 
 module _ {V : Type 0} where
   pub ascending-drop : (k : ℕ) (rs : List (Names × V)) → ascending rs ≡ true → ascending (drop k rs) ≡ true
