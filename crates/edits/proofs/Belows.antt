@@ -1,16 +1,17 @@
 -- What lies below a path that has no child: nothing. Assumes nothing.
 use Rattle.std.proofs.Common.{◌≡◌, ℕ, ◌<◌, ◌≤◌, Bool, true, false, cond, not, leb, List, [], ◌∷◌, ◌++◌, length, is_some, Some, None, Option, sym, refl, ap, ◌∙◌, subst, arith}
-use Rattle.std.proofs.lemmas.Bool.{true≢false, both_ways, and_parts, and_from, not-true, not_from_false, le-leb}
+use Rattle.std.proofs.lemmas.Bool.{true≢false, both_ways, and_parts, and_from, not-true, not_from_false, le-leb, false_from_ne_true}
 use Rattle.std.specs.Option.{option_map}
 use Rattle.std.specs.Ordering.{is_lt, is_eq}
 use Rattle.paths.specs.declared.Path.{Path}
 use Rattle.paths.specs.Names.{split, join, fault_in, good, parent, last_name}
 use Rattle.paths.specs.Order.{by_bytes, by_names}
 use Rattle.paths.specs.Paths.{names, text}
-use Rattle.paths.proofs.Joins.{good_parts, join_split, plain-from-fault, Plain}
+use Rattle.paths.proofs.Joins.{good_parts, join_split, plain-from-fault, not_empty}
 use Rattle.rows.specs.Maps.{Names, under, first, at, has, ascending, is_child, without}
 use Rattle.rows.specs.Builds.{same, set_at}
-use Rattle.rows.proofs.Orders.{is_same, parent-child, last_child}
+use Rattle.rows.proofs.Orders.{some_name}
+use Rattle.rows.proofs.Least.{child_passes}
 use Rattle.rows.proofs.Firsts.{first-none, there, at-holds, child-there}
 use Rattle.rows.proofs.Built.{same_rows, at_set, ascending_set}
 use Rattle.rows.proofs.Changed.{at-without, ascending-only}
@@ -31,20 +32,12 @@ good-fine s h =
 pub path_fine : (x : Path) → fine (names x) ≡ true
 path_fine x = good-fine (text x) x.sound
 
-named : (p : Names) (n : List ℕ) → Plain (p ++ n ∷ []) → 0 < length n
-named [] n h = h.0.0
-named (m ∷ p) n h = named p n h.1
-
-some_name : (n : List ℕ) → 0 < length n → is_lt (by_bytes [] n) ≡ true
-some_name [] h = absurd (omega arith)
-some_name (x ∷ n) h = refl
-
 -- the last name of a good path is above the empty one
 child-named : (p : Names) (n : List ℕ) → fine (p ++ n ∷ []) ≡ true → is_lt (by_bytes [] n) ≡ true
 child-named p n f =
     let q = p ++ n ∷ [] in
     let g = not-true (is_some (fault_in 0 q)) (and_parts (not (is_some (fault_in 0 q))) (leb (length (join q)) 120) f).0 in
-    some_name n (named p n (plain-from-fault 0 q g))
+    some_name n (not_empty p n [] (plain-from-fault 0 q g))
 
 -- ---- no child
 
@@ -58,9 +51,7 @@ module _ (rs : List Row) (c : closed rs rs ≡ true) (p : Names) (none : has_chi
       let q = p ++ n ∷ [] in
       let d = there rs q h in
       let off = first-none (is_child p []) rs (no_first (first (is_child p []) rs) none) (q, d.0) (at-holds rs q d.0 d.1) in
-      let up = is_same (parent q) p (parent-child p n) in
-      let low = ap (λ m. is_lt (by_bytes [] m)) (last_child p n) ∙ child-named p n (is-fine rs c q h) in
-      both_ways (is_child p [] (q, d.0)) off (and_from (is_eq (by_names (parent q) p)) (is_lt (by_bytes [] (last_name q))) up low)
+      both_ways (is_child p [] (q, d.0)) off (child_passes p [] n d.0 (child-named p n (is-fine rs c q h)))
 
   -- no row lies strictly below
   pub below_none : (q : Names) → under p q ≡ true → under q p ≡ false → at rs q ≡ None
@@ -73,10 +64,7 @@ module _ (rs : List Row) (c : closed rs rs ≡ true) (p : Names) (none : has_chi
 
   -- so what another path has below this one, it does not have
   pub apart_none : (q : Names) → under p q ≡ true → same q p ≡ false → at rs q ≡ None
-  apart_none q u s = below_none q u (go (under q p) refl) where
-    go : (t : Bool) → under q p ≡ t → t ≡ false
-    go true e = absurd (both_ways (same p q) (same_swap p q ∙ s) (same-under p q ∙ and_from (under p q) (under q p) u e))
-    go false e = refl
+  apart_none q u s = below_none q u (false_from_ne_true (under q p) (λ e. both_ways (same p q) (same_swap p q ∙ s) (same-under p q ∙ and_from (under p q) (under q p) u e)))
 
   -- taking out the rows under the path takes out its own
   pub set_none : ascending rs ≡ true → set_at rs p None ≡ without p rs

@@ -5,6 +5,7 @@ use Rattle.rows.specs.Maps.{Names, under, at, has, ascending}
 use Rattle.rows.specs.Builds.{set_at}
 use Rattle.trees.specs.declared.entry.Entry.{Entry}
 use Rattle.trees.specs.Entries.{Row, fine, closed}
+use Rattle.trees.proofs.Closed.{tree_parts}
 use Rattle.edits.specs.declared.action.Action.{Action}
 use Rattle.paths.specs.declared.Path.{Path}
 use Rattle.paths.specs.declared.PathFault.{PathFault}
@@ -21,7 +22,7 @@ use Rattle.flat.proofs.Written.{length_set, length-only}
 
 module _ (rs : List Row) (p : Names) (t : is_tree rs ≡ true) (f : fine p ≡ true) (a : Action) (h : refused_at rs (room_of rs) (need_at rs p) p a ≡ None) where
   parts : (ascending rs ≡ true) × (closed rs rs ≡ true)
-  parts = and_parts (ascending rs) (closed rs rs) t
+  parts = tree_parts rs t
 
   longer : length (edited rs p a) ≤ length rs + need_at rs p
   longer = subst (λ xs. length xs ≤ length rs + need_at rs p) (sym (edited-is rs p a)) (go (new_entry a (at rs p)) refl) where

@@ -6,7 +6,7 @@ use Rattle.rows.specs.Builds.{set_at}
 use Rattle.rows.specs.Tables.{spliced, splices}
 use Rattle.trees.specs.declared.entry.Entry.{Entry}
 use Rattle.trees.specs.Entries.{Row, closed}
-use Rattle.trees.proofs.Closed.{closed-rooted}
+use Rattle.trees.proofs.Closed.{tree_parts, closed-rooted}
 use Rattle.edits.specs.declared.action.Action.{Action}
 use Rattle.edits.specs.Edits.{has_child, refused_at, new_entry}
 use Rattle.paths.specs.declared.Path.{Path}
@@ -19,7 +19,7 @@ use Rattle.flat.proofs.Written.{set_replaced, replaced_absent, set_spliced, one_
 
 module _ (rs : List Row) (t : is_tree rs ≡ true) where
   parts : (ascending rs ≡ true) × (closed rs rs ≡ true)
-  parts = and_parts (ascending rs) (closed rs rs) t
+  parts = tree_parts rs t
 
   -- every row's parent has a row
   pub parents : rooted rs rs ≡ true
@@ -49,7 +49,7 @@ pub ruleset setting = (over, absent, fits, beside)
 module _ (rs : List Row) (x : Path) (a : Action) (t : is_tree rs ≡ true) (h : refused_at rs (room_of rs) (need_at rs (names x)) (names x) a ≡ None) where
   pub whole : is_tree (set_at rs (names x) (new_entry a (at rs (names x)))) ≡ true
   whole =
-      let b = parts rs t in
+      let b = tree_parts rs t in
       subst (λ rs. is_tree rs ≡ true) (edited-is rs (names x) a) (edited-closed rs (room_of rs) (need_at rs (names x)) (names x) b.0 b.1 (path_fine x) a h)
 
   pub enough : need_at rs (names x) ≤ room_of rs
@@ -57,7 +57,7 @@ module _ (rs : List Row) (x : Path) (a : Action) (t : is_tree rs ≡ true) (h : 
 
   pub bare : new_entry a (at rs (names x)) ≡ None → has_child rs (names x) ≡ false
   bare e =
-      let b = parts rs t in
+      let b = tree_parts rs t in
       emptied rs (room_of rs) (need_at rs (names x)) (names x) b.0 b.1 (path_fine x) a h e
 
 -- what `apply` needs

@@ -1,27 +1,18 @@
 -- The path that comes next: the first child, or the next sibling of the nearest prefix that has one. Assumes nothing.
 use Rattle.std.proofs.Common.{◌≡◌, ℕ, ◌<◌, Bool, true, false, List, [], ◌∷◌, ◌++◌, length, Some, None, Ordering, Less, Equal, Greater, sym, refl, ap, ◌∙◌, subst, ⊎_elim, append_assoc, append-nil, arith}
-use Rattle.std.proofs.lemmas.Bool.{true≢false, both_ways, and_parts, and_from}
+use Rattle.std.proofs.lemmas.Bool.{true≢false, both_ways, and_parts, and_from, false_from_ne_true}
 use Rattle.std.specs.Ordering.{is_lt, is_eq, is_le, ordering_then}
 use Rattle.paths.specs.Names.{parent, last_name, Under}
 use Rattle.paths.specs.Order.{by_bytes, by_names}
 use Rattle.paths.proofs.Laws.{bytes-exact, prefix_first, between}
-use Rattle.paths.proofs.Joins.{plain-from-fault, Plain}
+use Rattle.paths.proofs.Joins.{plain-from-fault, not_empty, Plain}
 use Rattle.rows.specs.Maps.{before, first, has, ascending, is_child, is_after}
 use Rattle.trees.specs.Entries.{Row, closed}
-use Rattle.rows.proofs.Orders.{before-le, not_before-same, not_both, le-before, same-is, is_same, shared, parent-child, last_child, as_child, no_name_least, is-less}
+use Rattle.rows.proofs.Orders.{before-le, not_before-same, not_both, le-before, same-is, is_same, shared, parent-child, last_child, as_child, no_name_least, some_name, is-less}
+use Rattle.rows.proofs.Least.{is_child_of, child_passes}
 use Rattle.rows.proofs.Firsts.{In, first_some, first-none, first-least, first-is, first_no, there, at-holds, child-there, in-there}
 use Rattle.trees.proofs.Answering.{fine_parts}
 use Rattle.trees.proofs.Closed.{is-fine, closed-rooted}
-
--- ---- names are not empty
-
-name_of : (p : List (List ℕ)) (n : List ℕ) (rest : List (List ℕ)) → Plain (p ++ n ∷ rest) → 0 < length n
-name_of [] n rest h = h.0.0
-name_of (m ∷ p) n rest h = name_of p n rest h.1
-
-some_above : (n : List ℕ) → 0 < length n → is_lt (by_bytes [] n) ≡ true
-some_above [] h = absurd (omega arith)
-some_above (x ∷ n) h = refl
 
 module _ (rs : List Row) (a : ascending rs ≡ true) (c : closed rs rs ≡ true) (p : List (List ℕ)) where
   -- no row after p is at or below q
@@ -47,7 +38,7 @@ module _ (rs : List Row) (a : ascending rs ≡ true) (c : closed rs rs ≡ true)
       go (m ∷ rest) e =
           let f = is-fine rs c x.0 (in-there rs a x i) in
           let g = plain-from-fault 0 x.0 (fine_parts x.0 f).0 in
-          (m, rest, e, some_above m (name_of p m rest (subst Plain e g)))
+          (m, rest, e, some_name m (not_empty p m rest (subst Plain e g)))
 
   -- then, for the parent of a prefix that has no more
   pub stands_up : (q : List (List ℕ)) (n : List ℕ) → Under (q ++ n ∷ []) p → Clear (q ++ n ∷ []) → Stands q n
@@ -84,7 +75,7 @@ module _ (rs : List Row) (a : ascending rs ≡ true) (c : closed rs rs ≡ true)
           (q ++ m ∷ [], t.0),
           at-holds rs (q ++ m ∷ []) t.0 t.1,
           refl,
-          and_from (is_eq (by_names (parent (q ++ m ∷ [])) q)) (is_lt (by_bytes n (last_name (q ++ m ∷ [])))) (is_same (parent (q ++ m ∷ [])) q (parent-child q m)) (ap (λ z. is_lt (by_bytes n z)) (last_child q m) ∙ l),
+          child_passes q n m t.0 l,
         )
 
     pub none-clear : first (is_child q n) rs ≡ None → Clear q
@@ -94,37 +85,30 @@ module _ (rs : List Row) (a : ascending rs ≡ true) (c : closed rs rs ≡ true)
         both_ways (is_child q n y.0) (first-none (is_child q n) rs h y.0 y.1) y.3
 
     module _ (r : Row) (h : first (is_child q n) rs ≡ Some r) where
-      tests : (is_eq (by_names (parent r.0) q) ≡ true) × (is_lt (by_bytes n (last_name r.0)) ≡ true)
-      tests = and_parts (is_eq (by_names (parent r.0) q)) (is_lt (by_bytes n (last_name r.0))) (first_some (is_child q n) rs r h).1
+      named : (r.0 ≡ q ++ last_name r.0 ∷ []) × (is_lt (by_bytes n (last_name r.0)) ≡ true)
+      named = is_child_of q n r (first_some (is_child q n) rs r h).1
 
       pub row_is : r.0 ≡ q ++ last_name r.0 ∷ []
-      row_is = go r.0 (same-is (parent r.0) q tests.0) tests.1 where
-        go : (z : List (List ℕ)) → parent z ≡ q → is_lt (by_bytes n (last_name z)) ≡ true → z ≡ q ++ last_name z ∷ []
-        go [] e l = absurd (no_name_least n l)
-        go (m ∷ z) e l = as_child m z ∙ ap (λ y. y ++ last_name (m ∷ z) ∷ []) e
+      row_is = named.0
 
       pub some_next : first (is_after p) rs ≡ Some r
       some_next = first-is (is_after p) rs a r (first_some (is_child q n) rs r h).0 over low where
         over : before p r.0 ≡ true
-        over = subst (λ z. before p z ≡ true) (sym row_is) (s.ahead (last_name r.0) tests.1)
+        over = subst (λ z. before p z ≡ true) (sym row_is) (s.ahead (last_name r.0) named.1)
 
         low : (x : Row) → In rs x → before x.0 r.0 ≡ true → is_after p x ≡ false
-        low x i b = go (is_after p x) refl where
-          go : (t : Bool) → is_after p x ≡ t → is_after p x ≡ false
-          go false e = e
-          go true e =
+        low x i b = false_from_ne_true (is_after p x) no where
+          no : is_after p x ≡ true → ⊥
+          no e =
               let u = between q x.0 r.0 (before-le q x.0 (le-before q p x.0 s.below e)) (before-le x.0 r.0 b) (last_name r.0 ∷ [], row_is) in
               let d = s.beyond x i e u in
               let y = child-row x i d.0 d.1 d.2 d.3 in
               let le : is_le (by_names y.0.0 x.0) ≡ true = subst (λ z. is_le (by_names y.0.0 z) ≡ true) (sym (d.2 ∙ sym (append_assoc q (d.0 ∷ []) d.1))) (subst (λ z. is_le (by_names z ((q ++ d.0 ∷ []) ++ d.1)) ≡ true) (sym y.2) (prefix_first (q ++ d.0 ∷ []) d.1)) in
               let lt = le-before y.0.0 x.0 r.0 le b in
-              absurd (⊎_elim (λ w. not_before-same y.0.0 r.0 (ap (λ z. z.0) w) lt) (λ w. not_both y.0.0 r.0 lt w) (first-least (is_child q n) rs a r y.0 h y.1 y.3))
+              ⊎_elim (λ w. not_before-same y.0.0 r.0 (ap (λ z. z.0) w) lt) (λ w. not_both y.0.0 r.0 lt w) (first-least (is_child q n) rs a r y.0 h y.1 y.3)
 
   -- past the root there is nothing
   pub clear_none : Clear [] → first (is_after p) rs ≡ None
   clear_none clear = first_no (is_after p) rs no_more where
     no_more : (x : Row) → In rs x → is_after p x ≡ false
-    no_more x i = go (is_after p x) refl where
-      go : (t : Bool) → is_after p x ≡ t → is_after p x ≡ false
-      go false e = e
-      go true e = absurd (clear x i e (x.0, refl))
+    no_more x i = false_from_ne_true (is_after p x) (λ e. clear x i e (x.0, refl))

@@ -1,6 +1,6 @@
 -- The rows that are left on a walk. Assumes nothing.
 use Rattle.std.proofs.Common.{◌≡◌, ℕ, Bool, true, false, cond, List, [], ◌∷◌, ◌++◌, is_some, Some, None, Option, sym, refl, ap, ◌∙◌, subst, inl, ⊎_elim}
-use Rattle.std.proofs.lemmas.Bool.{true≢false, and_parts, cond-true, cond-false}
+use Rattle.std.proofs.lemmas.Bool.{true≢false, and_parts, cond-true, cond-false, false_from_ne_true}
 use Rattle.std.specs.List.{concat}
 use Rattle.std.specs.Option.{option_map}
 use Rattle.paths.specs.declared.Path.{Path}
@@ -12,24 +12,16 @@ use Rattle.listing.specs.Lines.{line, lines}
 use Rattle.listing.specs.Walks.{from, from_at, texts, left}
 use Rattle.rows.proofs.Orders.{same-is, is_same, not_before_self, not_before-same, before-trans}
 use Rattle.rows.proofs.Firsts.{In, first_some, head_least, tail-ascends, at-holds}
+use Rattle.trees.proofs.Closed.{tree_parts}
 
 is_at-false : (x p : List (List ℕ)) (e : Entry) → before x p ≡ true → is_at p (x, e) ≡ false
-is_at-false x p e b = go (is_at p (x, e)) refl where
-  go : (t : Bool) → is_at p (x, e) ≡ t → is_at p (x, e) ≡ false
-  go true h = absurd (not_before-same x p (same-is x p h) b)
-  go false h = h
+is_at-false x p e b = false_from_ne_true (is_at p (x, e)) (λ h. not_before-same x p (same-is x p h) b)
 
 is_after-false : (p : List (List ℕ)) (x : Row) → x.0 ≡ p → is_after p x ≡ false
-is_after-false p x k = go (is_after p x) refl where
-  go : (t : Bool) → is_after p x ≡ t → is_after p x ≡ false
-  go true h = absurd (not_before-same p x.0 (sym k) h)
-  go false h = h
+is_after-false p x k = false_from_ne_true (is_after p x) (not_before-same p x.0 (sym k))
 
 before-after-false : (p : List (List ℕ)) (x : Row) → before x.0 p ≡ true → is_after p x ≡ false
-before-after-false p x b = go (is_after p x) refl where
-  go : (t : Bool) → is_after p x ≡ t → is_after p x ≡ false
-  go true h = absurd (not_before_self p (before-trans p x.0 p h b))
-  go false h = h
+before-after-false p x b = false_from_ne_true (is_after p x) (λ h. not_before_self p (before-trans p x.0 p h b))
 
 -- a row, and the rows after it
 pub from_row : (rs : List Row) → ascending rs ≡ true → (p : List (List ℕ)) (e : Entry) → In rs (p, e) → from p rs ≡ (p, e) ∷ from_at (path_after rs p) rs
@@ -82,5 +74,5 @@ module _ (en : Entries) (o : Option Path) (p : Path) (is : o ≡ Some p) where
 
   pub left-some : (e : Entry) (next : Option Path) (l : List ℕ) → at en.rows (names p) ≡ Some e → option_map names next ≡ path_after en.rows (names p) → l ≡ line (names p) e → left en o ≡ l ∷ left en next
   left-some e next l h n s =
-      let up = (and_parts (ascending en.rows) (closed en.rows en.rows) en.ok).0 in
+      let up = (tree_parts en.rows en.ok).0 in
       ap (left en) is ∙ ap texts (from_row en.rows up (names p) e (at-holds en.rows (names p) e h)) ∙ (λ i. sym s i ∷ texts (from_at (sym n i) en.rows))

@@ -9,7 +9,7 @@ use Rattle.paths.specs.declared.Path.{Path}
 use Rattle.paths.specs.Names.{split}
 use Rattle.paths.specs.Paths.{text, names}
 use Rattle.listing.specs.Walks.{from, from_at, texts, left}
-use Rattle.trees.proofs.Closed.{closed-rooted}
+use Rattle.trees.proofs.Closed.{tree_parts, closed-rooted}
 use Rattle.rows.proofs.Orders.{is_same}
 use Rattle.rows.proofs.Firsts.{head_least, at-holds, there, in-there, prefix_there}
 
@@ -29,7 +29,7 @@ root_none (r ∷ rs) a c h = absurd (both_ways (has (r ∷ rs) []) h (prefix_the
 
 module _ (en : Entries) where
   sure : (ascending en.rows ≡ true) × (closed en.rows en.rows ≡ true)
-  sure = and_parts (ascending en.rows) (closed en.rows en.rows) en.ok
+  sure = tree_parts en.rows en.ok
 
   rooted : (o : Option Entry) → at en.rows [] ≡ o → from_at (option_map (λ e. []) o) en.rows ≡ en.rows
   rooted None f = root_none en.rows sure.0 sure.1 (ap is_some f)

@@ -8,7 +8,7 @@ use Rattle.rows.specs.Maps.{first, has, ascending, is_child, child_path, path_af
 use Rattle.trees.specs.Entries.{Entries, Row, closed}
 use Rattle.rows.proofs.Orders.{as_child}
 use Rattle.rows.proofs.Firsts.{up}
-use Rattle.trees.proofs.Closed.{closed-rooted}
+use Rattle.trees.proofs.Closed.{tree_parts, closed-rooted}
 use Rattle.listing.proofs.Next.{Clear, Stands, stands-first, stands_up, none-clear, some_next, clear_none}
 use Rattle.listing.proofs.Child.{Left}
 
@@ -30,10 +30,10 @@ shorter up-q q is more =
 
 module _ (en : Entries) (p : List (List ℕ)) where
   asc : ascending en.rows ≡ true
-  asc = (and_parts (ascending en.rows) (closed en.rows en.rows) en.ok).0
+  asc = (tree_parts en.rows en.ok).0
 
   clo : closed en.rows en.rows ≡ true
-  clo = (and_parts (ascending en.rows) (closed en.rows en.rows) en.ok).1
+  clo = (tree_parts en.rows en.ok).1
 
   by_some : (q : List (List ℕ)) (n : List ℕ) → Stands en.rows asc clo p q n → (z : List (List ℕ)) → Some z ≡ child_path en.rows q n → Some z ≡ path_after en.rows p
   by_some q n s z e =

@@ -55,13 +55,6 @@ keywords (File f) = file_keywords f.mode f.size f.content
 abbrev pub line : Names → Entry → List ℕ
 line p e = dotted (join p) ++ (keywords e ++ 10 ∷ [])
 
-abbrev pub lined : Names → Option Entry → List ℕ
-lined p None = []
-lined p (Some e) = line p e
-
-abbrev pub line_at : List Row → Names → List ℕ
-line_at rs p = lined p (at rs p)
-
 abbrev pub lines : List Row → List ℕ
 lines [] = []
 lines (r ∷ rs) = line r.0 r.1 ++ lines rs

@@ -55,8 +55,3 @@ pub opaque_cuts : {N : Type 0} (p : List N) (m : List N → Option Mark) → som
 opaque_cuts p m h =
     let w = above_finds is_opaque p m h in
     ap (cut m) w.3 ∙ above_at stops w.0 w.1 w.2 false m (opaque-stops (m w.0) w.4)
-
--- one name more of a path
-pub above_more : {N : Type 0} (t : Option Mark → Bool) (m : List N → Option Mark) (p : List N) (k : ℕ) → k < length p → some_above t false m (take (k + 1) p) ≡ (some_above t false m (take k p) || t (m (take k p)))
-above_more t m [] k h = absurd (omega arith)
-above_more t m (n ∷ p) k h = ap (some_above t false m) (take_more (n ∷ p) k n h) ∙ above-child t (take k (n ∷ p)) (get_or (n ∷ p) k n) false m

@@ -11,7 +11,7 @@ use Rattle.rows.proofs.Unders.{under_goes, under_rest, under-itself, same-under,
 use Rattle.trees.specs.declared.entry.Entry.{Entry}
 use Rattle.trees.specs.declared.entry.Entry.TheVariants as entry
 use Rattle.trees.specs.Entries.{Row, is_dir, in_range, fine, closed}
-use Rattle.trees.proofs.Closed.{dir-there, closed-rooted, up-dir}
+use Rattle.trees.proofs.Closed.{tree_parts, dir-there, closed-rooted, up-dir}
 use Rattle.trees.proofs.Grown.{sound-at, none_below}
 use Rattle.edits.specs.declared.action.Action.{Action}
 use Rattle.edits.specs.declared.action.Action.TheVariants.{Put, Mkdir, Chmod, Remove}
@@ -23,7 +23,7 @@ use Rattle.marks.specs.declared.mark.Mark.TheVariants.{Whiteout, File, Dir, Opaq
 use Rattle.marks.specs.Marks.{MarkRow, entry_of, stops, is_opaque, holds, ranged, some_above, cut, unless, see, merged, layered}
 use Rattle.marks.specs.Edits.{written, made_dir, new_mode, write_some, shows_below, removed, marked}
 use Rattle.marks.proofs.Cuts.{above_at, above_finds, opaque_cuts}
-use Rattle.marks.proofs.Merges.{at-merged, ascending-merged, merged_tree, layer_parts, tree_parts, holds-seen}
+use Rattle.marks.proofs.Merges.{at-merged, ascending-merged, layer_parts, holds-seen, merged-closed}
 use Rattle.marks.proofs.Writes.{not_over, not_at, seen_apart, seen_here, seen_below, seen_none}
 use Rattle.marks.proofs.Grows.{false-or, holds_real, not-below, ProperDirs, dirs-above, dirs-parent, layered-written, layered-without, at-kept, at_dropped, seen-without, dirs-without}
 
@@ -46,11 +46,8 @@ pub record Kept (m m' : List MarkRow) (e : List Row) (p : Names) (v : Option Ent
   pub seen : (q : Names) → at (merged m' e) q ≡ cond (same q p) v (at (merged m e) q)
 
 module _ (m : List MarkRow) (e : List Row) (lm : layered m ≡ true) (le : (ascending e && closed e e) ≡ true) (p : Names) where
-  tree : closed (merged m e) (merged m e) ≡ true
-  tree = (tree_parts (merged m e) (merged_tree m e lm le)).1
-
   over : Fits (merged m e) p → ProperDirs (merged m e) p
-  over f = dirs-parent (merged m e) tree p f.under
+  over f = dirs-parent (merged m e) (merged-closed m e lm le) p f.under
 
   -- ---- a mark is written
 
@@ -65,7 +62,7 @@ module _ (m : List MarkRow) (e : List Row) (lm : layered m ≡ true) (le : (asce
     written_over : is_dir (at (merged m e) p) ≡ false → stops (Some x) ≡ true → Made m (written x m e p) e p (entry_of x)
     written_over d s = record {
       layer = λ good. layered-written m e lm le x p good in_reach dirs root (λ h. absurd (true≢false (sym (holds-dir h) ∙ d)));
-      seen = by_place (λ q u w. seen_none x m e p q u w s (none_below ranged holds holds_real m (layer_parts m lm).1 p q u w (false-or (holds (at m p)) (λ h. true≢false (sym (holds-dir h) ∙ d)))) ∙ sym (none_below in_range is_dir dir-there (merged m e) tree p q u w d));
+      seen = by_place (λ q u w. seen_none x m e p q u w s (none_below ranged holds holds_real m (layer_parts m lm).1 p q u w (false-or (holds (at m p)) (λ h. true≢false (sym (holds-dir h) ∙ d)))) ∙ sym (none_below in_range is_dir dir-there (merged m e) (merged-closed m e lm le) p q u w d));
     } where
       holds-dir : holds (at m p) ≡ true → is_dir (at (merged m e) p) ≡ true
       holds-dir h = ap is_dir (at-merged m e p) ∙ holds-seen (at m p) (unless (cut (at m) p) (at e p)) h
@@ -113,7 +110,7 @@ module _ (m : List MarkRow) (e : List Row) (lm : layered m ≡ true) (le : (asce
     only_here : (q : Names) → under p q ≡ true → cond (same q p) None (at (merged m e) q) ≡ None
     only_here q u = ⊎_elim
         (λ y. cond-true (same q p) None (at (merged m e) q) y.1)
-        (λ n. cond-false (same q p) None (at (merged m e) q) n ∙ below_none (merged m e) tree p childless q u (strict q p n u))
+        (λ n. cond-false (same q p) None (at (merged m e) q) n ∙ below_none (merged m e) (merged-closed m e lm le) p childless q u (strict q p n u))
         (told q p)
 
     apart_here : (q : Names) → under p q ≡ false → at (merged m e) q ≡ cond (same q p) None (at (merged m e) q)
@@ -121,7 +118,7 @@ module _ (m : List MarkRow) (e : List Row) (lm : layered m ≡ true) (le : (asce
 
     removed-shown : Made m (written Whiteout (without p m) e p) e p None
     removed-shown = record {
-      layer = λ good. layered-written (without p m) e (layered-without m e lm le p) le Whiteout p good refl (dirs-without m e lm le p (dirs-above (merged m e) tree p present)) (λ r. absurd (true≢false (sym r ∙ inside))) (λ h. absurd (true≢false (sym h ∙ ap holds (at_dropped m e lm le p p (under-itself p)))));
+      layer = λ good. layered-written (without p m) e (layered-without m e lm le p) le Whiteout p good refl (dirs-without m e lm le p (dirs-above (merged m e) (merged-closed m e lm le) p present)) (λ r. absurd (true≢false (sym r ∙ inside))) (λ h. absurd (true≢false (sym h ∙ ap holds (at_dropped m e lm le p p (under-itself p)))));
       seen = λ q. ⊎_elim (below q) (λ u. seen_apart Whiteout (without p m) e p q u ∙ seen-without m e lm le p q u ∙ apart_here q u) (cases_Bool (under p q));
     } where
       below : (q : Names) → under p q ≡ true → at (merged (written Whiteout (without p m) e p) e) q ≡ cond (same q p) None (at (merged m e) q)
@@ -177,7 +174,7 @@ module _ (m : List MarkRow) (e : List Row) (lm : layered m ≡ true) (le : (asce
     root_dir : has (merged m e) p ≡ true → is_root p ≡ true → is_dir (at (merged m e) p) ≡ true
     root_dir h r = go p h r where
       go : (q : Names) → has (merged m e) q ≡ true → is_root q ≡ true → is_dir (at (merged m e) q) ≡ true
-      go [] h r = up-dir (merged m e) tree [] h
+      go [] h r = up-dir (merged m e) (merged-closed m e lm le) [] h
       go (n ∷ q) h r = absurd (true≢false (sym r))
 
     seen-mark : (x : Mark) → at m p ≡ Some x → at (merged m e) p ≡ entry_of x
@@ -186,23 +183,23 @@ module _ (m : List MarkRow) (e : List Row) (lm : layered m ≡ true) (le : (asce
     chmod_over : (k : ℕ) → leb k 4095 ≡ true → has (merged m e) p ≡ true → (o : Option Mark) (v : Option Entry) → at m p ≡ o → at (merged m e) p ≡ v → Made m (write_some (new_mode k o v) m e p) e p (option_map (with_mode k) v)
     chmod_over k l h None None f i = absurd (true≢false (sym h ∙ ap is_some i))
     chmod_over k l h None (Some (entry.File x)) f i =
-        let s = sound-at in_range is_dir (merged m e) tree p (entry.File x) i in
+        let s = sound-at in_range is_dir (merged m e) (merged-closed m e lm le) p (entry.File x) i in
         let c = and_parts (leb x.mode 4095) (leb x.size 1099511627776 && ltb x.content 18446744073709551616) s.ranged in
-        written_over (File (record { mode = k; size = x.size; content = x.content })) (and_from (leb k 4095) (leb x.size 1099511627776 && ltb x.content 18446744073709551616) l c.1) (dirs-above (merged m e) tree p h) (λ r. absurd (true≢false (sym (root_dir h r) ∙ ap is_dir i))) (ap is_dir i) refl
+        written_over (File (record { mode = k; size = x.size; content = x.content })) (and_from (leb k 4095) (leb x.size 1099511627776 && ltb x.content 18446744073709551616) l c.1) (dirs-above (merged m e) (merged-closed m e lm le) p h) (λ r. absurd (true≢false (sym (root_dir h r) ∙ ap is_dir i))) (ap is_dir i) refl
     chmod_over k l h None (Some (entry.Dir x)) f i =
-        written_alike (Dir (record { mode = k })) l (dirs-above (merged m e) tree p h) (λ _. refl) (sym (ap stops f)) (λ _. refl)
+        written_alike (Dir (record { mode = k })) l (dirs-above (merged m e) (merged-closed m e lm le) p h) (λ _. refl) (sym (ap stops f)) (λ _. refl)
     chmod_over k l h (Some Whiteout) v f i = absurd (true≢false (sym h ∙ ap is_some (seen-mark Whiteout f)))
     chmod_over k l h (Some (File x)) v f i =
         let s = sound-at ranged holds m (layer_parts m lm).1 p (File x) f in
         let c = and_parts (leb x.mode 4095) (leb x.size 1099511627776 && ltb x.content 18446744073709551616) s.ranged in
         subst (λ w. Made m (written (File (record { mode = k; size = x.size; content = x.content })) m e p) e p (option_map (with_mode k) w)) (sym (seen-mark (File x) f) ∙ i)
-        (written_alike (File (record { mode = k; size = x.size; content = x.content })) (and_from (leb k 4095) (leb x.size 1099511627776 && ltb x.content 18446744073709551616) l c.1) (dirs-above (merged m e) tree p h) (λ r. absurd (true≢false (sym (root_dir h r) ∙ ap is_dir (seen-mark (File x) f)))) (sym (ap stops f)) (λ d. absurd (true≢false (sym d ∙ ap holds f))))
+        (written_alike (File (record { mode = k; size = x.size; content = x.content })) (and_from (leb k 4095) (leb x.size 1099511627776 && ltb x.content 18446744073709551616) l c.1) (dirs-above (merged m e) (merged-closed m e lm le) p h) (λ r. absurd (true≢false (sym (root_dir h r) ∙ ap is_dir (seen-mark (File x) f)))) (sym (ap stops f)) (λ d. absurd (true≢false (sym d ∙ ap holds f))))
     chmod_over k l h (Some (Dir x)) v f i =
         subst (λ w. Made m (written (Dir (record { mode = k })) m e p) e p (option_map (with_mode k) w)) (sym (seen-mark (Dir x) f) ∙ i)
-        (written_alike (Dir (record { mode = k })) l (dirs-above (merged m e) tree p h) (λ _. refl) (sym (ap stops f)) (λ _. refl))
+        (written_alike (Dir (record { mode = k })) l (dirs-above (merged m e) (merged-closed m e lm le) p h) (λ _. refl) (sym (ap stops f)) (λ _. refl))
     chmod_over k l h (Some (Opaque x)) v f i =
         subst (λ w. Made m (written (Opaque (record { mode = k })) m e p) e p (option_map (with_mode k) w)) (sym (seen-mark (Opaque x) f) ∙ i)
-        (written_alike (Opaque (record { mode = k })) l (dirs-above (merged m e) tree p h) (λ _. refl) (sym (ap stops f)) (λ _. refl))
+        (written_alike (Opaque (record { mode = k })) l (dirs-above (merged m e) (merged-closed m e lm le) p h) (λ _. refl) (sym (ap stops f)) (λ _. refl))
 
     made-chmod : (k : ℕ) → refused_at (merged m e) room need p (Chmod k) ≡ None → Made m (marked m e p (Chmod k)) e p (new_entry (Chmod k) (at (merged m e) p))
     made-chmod k h = let g = granted-chmod (merged m e) room need p k h in chmod_over k g.0 g.1 (at m p) (at (merged m e) p) refl refl
@@ -230,6 +227,3 @@ module _ (m : List MarkRow) (e : List Row) (lm : layered m ≡ true) (le : (asce
 
   pub layered-marked : (a : Action) → refused_at (merged m e) room need p a ≡ None → layered (marked m e p a) ≡ true
   layered-marked a h = (kept_edit a h).layer
-
-  pub merged-marked : (a : Action) → refused_at (merged m e) room need p a ≡ None → merged (marked m e p a) e ≡ edited (merged m e) p a
-  merged-marked = entries-marked m e lm le p room need

@@ -18,7 +18,7 @@ use Rattle.marks.specs.declared.mark.Mark.TheVariants.{Dir}
 use Rattle.marks.specs.Marks.{MarkRow, stops, holds, ranged, cut, unless, see, merged, sound, layered}
 use Rattle.marks.specs.Edits.{lifted, written}
 use Rattle.marks.proofs.Cuts.{above_alike}
-use Rattle.marks.proofs.Merges.{at-merged, merged_tree, layer_parts, tree_parts}
+use Rattle.marks.proofs.Merges.{at-merged, layer_parts, merged-closed}
 use Rattle.marks.proofs.Writes.{written-here, written-above, written_apart, ascending-written, holds-lifted}
 
 pub false-or : (b : Bool) → (b ≡ true → ⊥) → b ≡ false
@@ -93,7 +93,7 @@ module _ (m : List MarkRow) (e : List Row) (lm : layered m ≡ true) (le : (asce
     go None (Some (entry.File k)) f g d h = absurd (true≢false (sym d))
     go None (Some (entry.Dir k)) f g d h =
         let same-mark : Dir k ≡ y = cc in
-        let s = sound-at in_range is_dir (merged m e) (tree_parts (merged m e) (merged_tree m e lm le)).1 q (entry.Dir k) g in
+        let s = sound-at in_range is_dir (merged m e) (merged-closed m e lm le) q (entry.Dir k) g in
         (s.good, subst (λ z. ranged z ≡ true) same-mark s.ranged)
 
   lifted-holds : (q : Names) → is_dir (at (merged m e) q) ≡ true → holds (lifted (at m q) (at (merged m e) q)) ≡ true

@@ -10,7 +10,7 @@ use Rattle.trees.specs.declared.entry.Entry.{Entry}
 use Rattle.trees.specs.declared.entry.Entry.TheVariants as entry
 use Rattle.trees.specs.Entries.{Row, is_dir, in_range, closed}
 use Rattle.trees.proofs.Grown.{Sound, sound-at}
-use Rattle.trees.proofs.Closed.{closed_by}
+use Rattle.trees.proofs.Closed.{tree_parts, closed_by}
 use Rattle.marks.specs.declared.mark.Mark.{Mark}
 use Rattle.marks.specs.declared.mark.Mark.TheVariants.{Whiteout, File, Dir, Opaque}
 use Rattle.marks.specs.Marks.{MarkRow, entry_of, stops, holds, ranged, cut, unless, see, laid, merged, sound, layered}
@@ -57,9 +57,6 @@ unless-some false y v h = (refl, h)
 pub layer_parts : (m : List MarkRow) → layered m ≡ true → (ascending m ≡ true) × (sound m m ≡ true)
 layer_parts m h = and_parts (ascending m) (sound m m) h
 
-pub tree_parts : (e : List Row) → (ascending e && closed e e) ≡ true → (ascending e ≡ true) × (closed e e ≡ true)
-tree_parts e h = and_parts (ascending e) (closed e e) h
-
 module _ (m : List MarkRow) (e : List Row) (lm : layered m ≡ true) (le : (ascending e && closed e e) ≡ true) where
   -- no mark above a path stops, so its parent in the tree below is seen
   seen-parent : (p : Names) → at m p ≡ None → cut (at m) p ≡ false → is_dir (at e (parent p)) ≡ true → is_dir (laid see (at m) (at e) (parent p)) ≡ true
@@ -93,3 +90,6 @@ module _ (m : List MarkRow) (e : List Row) (lm : layered m ≡ true) (le : (asce
   merged_tree =
       let up = ascending-merged m e (tree_parts e le).0 in
       and_from (ascending (merged m e)) (closed (merged m e) (merged m e)) up (closed_by (merged m e) up merged-sound)
+
+  pub merged-closed : closed (merged m e) (merged m e) ≡ true
+  merged-closed = (tree_parts (merged m e) merged_tree).1

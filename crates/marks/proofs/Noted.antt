@@ -20,7 +20,7 @@ use Rattle.marks.specs.declared.mark.Mark.TheVariants.{Whiteout, File, Dir, Opaq
 use Rattle.marks.specs.Marks.{MarkRow, cut, unless, see, merged, layered}
 use Rattle.marks.specs.Edits.{lifted, write_at, written, made_dir, new_mode, new_mark, write_some, shows_below, removed, marked, lacking, lacks}
 use Rattle.marks.specs.Plain.{missing, unnoted}
-use Rattle.marks.proofs.Merges.{at-merged, layer_parts, tree_parts, merged_tree}
+use Rattle.marks.proofs.Merges.{at-merged, layer_parts, merged-closed}
 use Rattle.marks.proofs.Grows.{ProperDirs, dirs-above, dirs-parent, ascending-without}
 use Rattle.marks.proofs.Counts.{length_union, length-within, length-keys, length-build, ascends-prefixes, missing-none, missing_most}
 
@@ -143,22 +143,19 @@ pub record Writes (m : List MarkRow) (e : List Row) (p : Names) (a : Action) : T
   pub dirs : ProperDirs (merged m e) p
 
 module _ (m : List MarkRow) (e : List Row) (lm : layered m ≡ true) (le : (ascending e && closed e e) ≡ true) (room need : ℕ) (p : Names) where
-  whole : closed (merged m e) (merged m e) ≡ true
-  whole = (tree_parts (merged m e) (merged_tree m e lm le)).1
-
   pub writes : (a : Action) → removes a ≡ false → refused_at (merged m e) room need p a ≡ None → Writes m e p a
   writes (Put (entry.File f)) r h =
       let g = granted-put (merged m e) room need p (entry.File f) h in
-      record { mark = File f; new = refl; after = refl; dirs = dirs-parent (merged m e) whole p g.1.under }
+      record { mark = File f; new = refl; after = refl; dirs = dirs-parent (merged m e) (merged-closed m e lm le) p g.1.under }
   writes (Put (entry.Dir d)) r h = absurd (true≢false (sym (granted-put (merged m e) room need p (entry.Dir d) h).0))
   writes (Mkdir k) r h =
       let g = granted-mkdir (merged m e) room need p k h in
-      record { mark = made_dir k (at m p); new = refl; after = refl; dirs = dirs-parent (merged m e) whole p g.1.under }
+      record { mark = made_dir k (at m p); new = refl; after = refl; dirs = dirs-parent (merged m e) (merged-closed m e lm le) p g.1.under }
   writes (Chmod k) r h =
       let g = granted-chmod (merged m e) room need p k h in
       let y = mode_some k (at m p) (unless (cut (at m) p) (at e p)) (sym (ap is_some (at-merged m e p)) ∙ g.1) in
       let n = ap (new_mode k (at m p)) (at-merged m e p) ∙ y.1 in
-      record { mark = y.0; new = n; after = ap (λ o. write_some o m e p) n; dirs = dirs-above (merged m e) whole p g.1 }
+      record { mark = y.0; new = n; after = ap (λ o. write_some o m e p) n; dirs = dirs-above (merged m e) (merged-closed m e lm le) p g.1 }
   writes Remove r h = absurd (true≢false r)
 
   -- a granted edit that removes nothing takes just what its path lacks, which then lacks nothing

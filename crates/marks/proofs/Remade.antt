@@ -1,10 +1,11 @@
 -- What paths are marked opaque after an edit, and so what the plain map of a layer becomes. Assumes nothing.
 use Rattle.std.proofs.Common.{◌≡◌, ℕ, Bool, true, false, cond, not, ◌&&◌, ◌||◌, List, [], ◌∷◌, is_some, Some, None, Option, sym, refl, ap, ◌∙◌, ⊎_elim}
+use Rattle.std.proofs.Math.Bool.{or_assoc}
 use Rattle.std.proofs.lemmas.Bool.{true≢false, cond-true, cond-false, cases_Bool}
 use Rattle.paths.specs.Names.{prefixes}
 use Rattle.rows.specs.Maps.{Names, at, has, ascending, under, without}
 use Rattle.rows.specs.Builds.{same, among, add, keys, union}
-use Rattle.rows.proofs.Built.{Above, Ascends, or_assoc, told, same_path, at-cons, among-add, among-has, ascends-add, ascends-keys}
+use Rattle.rows.proofs.Built.{Above, Ascends, told, same_path, at-cons, among-add, among-has, ascends-add, ascends-keys}
 use Rattle.rows.proofs.Unders.{under-itself}
 use Rattle.rows.proofs.Changed.{at-without}
 use Rattle.trees.specs.declared.entry.Entry.{Entry}
@@ -19,7 +20,7 @@ use Rattle.marks.specs.declared.mark.Mark.TheVariants.{Whiteout, File, Dir, Opaq
 use Rattle.marks.specs.Marks.{MarkRow, is_opaque, below, some_above, cut, unless, see, merged, layered}
 use Rattle.marks.specs.Edits.{lifted, written, made_dir, new_mode, shows_below, removed, marked}
 use Rattle.marks.specs.Plain.{note, clear, some_proper, would_show, granted_plain, opaque_paths, plain_of}
-use Rattle.marks.proofs.Merges.{at-merged, layer_parts, tree_parts, merged_tree}
+use Rattle.marks.proofs.Merges.{at-merged, layer_parts, merged-closed}
 use Rattle.marks.proofs.Writes.{written-here, written-above, written_apart, ascending-written}
 use Rattle.marks.proofs.Counts.{above-not, same_paths}
 use Rattle.marks.proofs.Grows.{ProperDirs, dirs-above, dirs-without, at_dropped, ascending-without}
@@ -90,7 +91,7 @@ keys-without p (r ∷ m) = go (under p r.0) (keys-without p m) where
 
 above_proper : {N : Type 0} (t : Option Mark → Bool) (b : Bool) (f : List N → Option Mark) (p : List N) → some_above t b f p ≡ (b || some_proper (λ q. t (f q)) p)
 above_proper t b f [] = elim b as (λ c. c ≡ (c || false)) [ true ↦ refl | false ↦ refl ]
-above_proper t b f (n ∷ p) = above_proper t (b || t (f [])) (below f n) p ∙ sym (or_assoc b (t (f [])) (some_proper (λ q. t (f (n ∷ q))) p))
+above_proper t b f (n ∷ p) = above_proper t (b || t (f [])) (below f n) p ∙ or_assoc b (t (f [])) (some_proper (λ q. t (f (n ∷ q))) p)
 
 proper_alike : {N : Type 0} (f g : List N → Bool) → ((q : List N) → f q ≡ g q) → (p : List N) → some_proper f p ≡ some_proper g p
 proper_alike f g h [] = refl
@@ -186,7 +187,7 @@ module _ (m : List MarkRow) (e : List Row) (lm : layered m ≡ true) (le : (asce
   up = (layer_parts m lm).0
 
   dirs-there : has (merged m e) p ≡ true → ProperDirs (merged m e) p
-  dirs-there h = dirs-above (merged m e) (tree_parts (merged m e) (merged_tree m e lm le)).1 p h
+  dirs-there h = dirs-above (merged m e) (merged-closed m e lm le) p h
 
   keys_wrote : (a : Action) → removes a ≡ false → refused_at (merged m e) room need p a ≡ None → keys (marked m e p a) ≡ note p (keys m)
   keys_wrote a r h = let w = writes m e lm le room need p a r h in ap keys w.after ∙ keys-written w.mark m e p w.dirs

@@ -1,6 +1,7 @@
 -- The child that is seen behind a name, from the layer's rows and the tree below. Assumes nothing.
 use Rattle.std.proofs.Common.{◌≡◌, ℕ, ◌<◌, Bool, true, false, cond, not, ◌&&◌, ◌||◌, List, is_some, Some, None, Option, sym, refl, ap, ◌∙◌, subst, ⊎_elim}
-use Rattle.std.proofs.lemmas.Bool.{true≢false, both_ways}
+use Rattle.std.proofs.Math.Bool.{not-not}
+use Rattle.std.proofs.lemmas.Bool.{true≢false, both_ways, false_from_ne_true}
 use Rattle.std.specs.Option.{option_map}
 use Rattle.paths.specs.Names.{last_name}
 use Rattle.rows.specs.Maps.{Names, before, at, ascending, child_path}
@@ -13,11 +14,8 @@ use Rattle.marks.specs.declared.mark.Mark.{Mark}
 use Rattle.marks.specs.declared.mark.Mark.TheVariants.{Whiteout}
 use Rattle.marks.specs.Marks.{MarkRow, entry_of, stops, cut, unless, see, merged, layered}
 use Rattle.marks.proofs.Cuts.{above-child}
-use Rattle.marks.proofs.Merges.{at-merged, ascending-merged, layer_parts, tree_parts}
-
-not-not : (b : Bool) → not (not b) ≡ b
-not-not true = refl
-not-not false = refl
+use Rattle.trees.proofs.Closed.{tree_parts}
+use Rattle.marks.proofs.Merges.{at-merged, ascending-merged, layer_parts}
 
 shows : {V : Type 0} (b : Bool) (o : Option V) → is_some (unless (not b) o) ≡ (b && is_some o)
 shows true o = refl
@@ -111,7 +109,7 @@ module _ (m : List MarkRow) (e : List Row) (lm : layered m ≡ true) (le : (asce
 
     -- the layer's row comes first: no name before it is seen
     none_before : (r : Names) → ((l : Names) → cond shown (child_path e p a) None ≡ Some l → before l r ≡ false) → (n : List ℕ) → r ≡ child p n → Least marked a (Some n) → (k : List ℕ) → less a k ≡ true → less k n ≡ true → seen k ≡ false
-    none_before r f n s x k l u = by_lower k (x.2 k l u) ∙ go (lower k) refl where
+    none_before r f n s x k l u = by_lower k (x.2 k l u) ∙ false_from_ne_true (lower k) (let d = low-least in late d.0 d.1 d.2) where
       late : (o : Option (List ℕ)) → low ≡ option_map (child p) o → Least lower a o → lower k ≡ true → ⊥
       late None g y t = both_ways (lower k) (y k l) t
       late (Some j) g y t =
@@ -120,10 +118,6 @@ module _ (m : List MarkRow) (e : List Row) (lm : layered m ≡ true) (le : (asce
           (λ q. both_ways (less j n) b (ap (λ z. less z n) q ∙ u))
           (λ q. both_ways (less j n) b (less-trans j k n q u))
           (least_bound lower a j k y l t)
-
-      go : (t : Bool) → lower k ≡ t → lower k ≡ false
-      go true t = absurd (let d = low-least in late d.0 d.1 d.2 t)
-      go false t = t
 
     -- then it is what is seen, where its mark has an entry
     pub seen-row : (r : Names) → child_path m p a ≡ Some r → ((l : Names) → cond shown (child_path e p a) None ≡ Some l → before l r ≡ false) → (x : Mark) → at m r ≡ Some x → is_some (entry_of x) ≡ true → child_path (merged m e) p a ≡ Some r

@@ -25,11 +25,6 @@ module _ (sep : ℕ) where
   take-front (b ∷ bs) =
       elim (eqb b sep) as (λ t. take (length (cond t [] (b ∷ front sep bs))) (b ∷ bs) ≡ cond t [] (b ∷ front sep bs)) [ true ↦ refl | false ↦ ap (λ l. b ∷ l) (take-front bs) ]
 
-  pub front_fits : (s : List ℕ) → length (front sep s) ≤ length s
-  front_fits [] = omega arith
-  front_fits (b ∷ bs) =
-      elim (eqb b sep) as (λ t. length (cond t [] (b ∷ front sep bs)) ≤ suc (length bs)) [ true ↦ omega arith | false ↦ omega (arith, front_fits bs) ]
-
   pub later-none : (s : List ℕ) → length (front sep s) ≡ length s → later sep s ≡ []
   later-none [] h = refl
   later-none (b ∷ bs) h =

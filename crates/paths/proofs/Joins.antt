@@ -54,6 +54,11 @@ pieces-plain (b ∷ bs) h =
 abbrev pub Plain : List (List ℕ) → Type 0
 Plain ns = All (λ n. (0 < length n) × (plain n ≡ true)) ns
 
+-- so each name is not empty
+pub not_empty : (p : List (List ℕ)) (n : List ℕ) (rest : List (List ℕ)) → Plain (p ++ n ∷ rest) → 0 < length n
+not_empty [] n rest h = h.0.0
+not_empty (m ∷ p) n rest h = not_empty p n rest h.1
+
 pub pieces-join : (n : List ℕ) (ns : List (List ℕ)) → Plain (n ∷ ns) → pieces 47 (join (n ∷ ns)) ≡ n ∷ ns
 pieces-join n [] h = pieces-plain n h.0.1
 pieces-join n (m ∷ ns) h =

@@ -1,5 +1,6 @@
 -- What maps made path by path have at each path. Assumes nothing.
 use Rattle.std.proofs.Common.{◌≡◌, Bool, true, false, cond, ◌||◌, ◌⊎◌, List, [], ◌∷◌, is_some, Some, None, Option, Ordering, Less, Equal, Greater, sym, refl, ap, ◌∙◌, inl, inr, ⊎_elim}
+use Rattle.std.proofs.Math.Bool.{or_assoc, or_self_left}
 use Rattle.std.proofs.lemmas.Bool.{true≢false, cond-true, cond-false, or_parts, or_left, or_right, and_parts, and_from}
 use Rattle.std.specs.Cmp.{nat_cmp_total}
 use Rattle.std.specs.Cmp.Lexicographic.{lists_total}
@@ -39,26 +40,18 @@ or_swap true true c = refl
 or_swap true false c = refl
 or_swap false b c = refl
 
-or_twice : (a c : Bool) → (a || c) ≡ (a || (a || c))
-or_twice true c = refl
-or_twice false c = refl
-
-pub or_assoc : (a b c : Bool) → (a || (b || c)) ≡ ((a || b) || c)
-or_assoc true b c = refl
-or_assoc false b c = refl
-
 pub among-add : (ks : List Names) (k q : Names) → among (add ks k) q ≡ (same q k || among ks q)
 among-add [] k q = refl
 among-add (x ∷ xs) k q = go (by_names k x) refl (among-add xs k q) where
   go : (r : Ordering) → by_names k x ≡ r → among (add xs k) q ≡ (same q k || among xs q) → among (put_by r k x xs (add xs k)) q ≡ (same q k || (same q x || among xs q))
   go Less e h = refl
-  go Equal e h = or_twice (same q x) (among xs q) ∙ ap (λ j. same q j || (same q x || among xs q)) (sym (names-exact k x e))
+  go Equal e h = sym (or_self_left (same q x) (among xs q)) ∙ ap (λ j. same q j || (same q x || among xs q)) (sym (names-exact k x e))
   go Greater e h = ap (λ t. same q x || t) h ∙ or_swap (same q x) (same q k) (among xs q)
 
 pub among-union : (ks js : List Names) (q : Names) → among (union ks js) q ≡ (among ks q || among js q)
 among-union [] js q = refl
 among-union (k ∷ ks) js q =
-    among-add (union ks js) k q ∙ (ap (λ t. same q k || t) (among-union ks js q) ∙ or_assoc (same q k) (among ks q) (among js q))
+    among-add (union ks js) k q ∙ (ap (λ t. same q k || t) (among-union ks js q) ∙ sym (or_assoc (same q k) (among ks q) (among js q)))
 
 -- ---- order
 

@@ -1,6 +1,6 @@
 -- The first child behind a name is the least. Assumes nothing.
 use Rattle.std.proofs.Common.{◌≡◌, ℕ, suc, Bool, true, false, cond, not, ◌⊎◌, List, [], ◌∷◌, ◌++◌, drop, Some, None, Option, slice_get, MatchOption, length, ◌<◌, Ordering, Less, Equal, Greater, sym, refl, ap, ◌∙◌, subst, ⊎_elim, append-nil}
-use Rattle.std.proofs.lemmas.Bool.{true≢false, both_ways, and_parts, and_from, not-true, not_from_false}
+use Rattle.std.proofs.lemmas.Bool.{true≢false, both_ways, and_parts, and_from, not-true, not_from_false, false_from_ne_true}
 use Rattle.std.specs.Cmp.{nat_cmp_total}
 use Rattle.std.specs.Cmp.Lexicographic.{lists_total}
 use Rattle.std.specs.Option.{option_map}
@@ -18,6 +18,7 @@ use Rattle.rows.specs.Rows.{rows_of}
 use Rattle.rows.specs.Positions.{behind, lead, child_head, child_at}
 use Rattle.rows.proofs.Leads.{is_ahead, asked-at, not_ahead}
 use Rattle.rows.proofs.Orders.{before-le, not_before-same, not_both, same-is, is_same, shared, parent-child, as_child, no_name_least}
+use Rattle.rows.proofs.Least.{is_child_of}
 use Rattle.rows.proofs.Firsts.{In, first_some, first-none, first-least, first-is, first_no, there, at-holds, in-there, child-there}
 use Rattle.rows.proofs.Places.{Clean, clean_path, clean_at, not_before-le, before_then_le, under-place, self_place}
 
@@ -60,25 +61,17 @@ module _ {V : Type 0} where
     go false more = refl
 
   module _ (rs : List (Names × V)) (up : ascending rs ≡ true) (c : rooted rs rs ≡ true) (clean : (x : Names × V) → In rs x → Clean x.0) (p : Names) (a : List ℕ) where
-    is_child_of : (x : Names × V) → is_child p a x ≡ true → (x.0 ≡ p ++ last_name x.0 ∷ []) × (is_lt (by_bytes a (last_name x.0)) ≡ true)
-    is_child_of x t =
-        let d = and_parts (is_eq (by_names (parent x.0) p)) (is_lt (by_bytes a (last_name x.0))) t in
-        (child_of x.0 p (same-is (parent x.0) p d.0) (λ e. no_name_least a (subst (λ z. is_lt (by_bytes a (last_name z)) ≡ true) e d.1)), d.1)
-
     -- a child with a greater name does not come before the place
     child_late : (x : Names × V) → In rs x → is_child p a x ≡ true → not_before (p ++ behind a ∷ []) x ≡ true
     child_late x i t =
-        let d = is_child_of x t in
+        let d = is_child_of p a x t in
         let n = clean_at p (last_name x.0) [] (subst Clean d.0 (clean x i)) in
         not_from_false (before x.0 (p ++ behind a ∷ [])) (ap (λ z. before z (p ++ behind a ∷ [])) d.0 ∙ under-place p a (last_name x.0) [] n ∙ ap is_le ((lists_total nat_cmp_total).antisymm (last_name x.0) a) ∙ under (by_bytes a (last_name x.0)) d.1)
 
     none_late : first (not_before (p ++ behind a ∷ [])) rs ≡ None → first (is_child p a) rs ≡ None
     none_late f = first_no (is_child p a) rs no_child where
       no_child : (x : Names × V) → In rs x → is_child p a x ≡ false
-      no_child x i = go (is_child p a x) refl where
-        go : (t : Bool) → is_child p a x ≡ t → is_child p a x ≡ false
-        go true e = absurd (both_ways (not_before (p ++ behind a ∷ []) x) (first-none (not_before (p ++ behind a ∷ [])) rs f x i) (child_late x i e))
-        go false e = e
+      no_child x i = false_from_ne_true (is_child p a x) (λ e. both_ways (not_before (p ++ behind a ∷ []) x) (first-none (not_before (p ++ behind a ∷ [])) rs f x i) (child_late x i e))
 
     module _ (r : Names × V) (f : first (not_before (p ++ behind a ∷ [])) rs ≡ Some r) where
       inside : In rs r
@@ -106,10 +99,7 @@ module _ {V : Type 0} where
         passes = and_from (is_eq (by_names (parent r.0) p)) (is_lt (by_bytes a (last_name r.0))) t (ap is_lt ((lists_total nat_cmp_total).antisymm a (last_name r.0)) ∙ over (by_bytes (last_name r.0) a) above)
 
         low : (x : Names × V) → In rs x → before x.0 r.0 ≡ true → is_child p a x ≡ false
-        low x i b = go (is_child p a x) refl where
-          go : (t : Bool) → is_child p a x ≡ t → is_child p a x ≡ false
-          go true e = absurd (⊎_elim (λ s. not_before-same x.0 r.0 (ap (λ z. z.0) s) b) (λ l. not_both x.0 r.0 b l) (from_on x i (child_late x i e)))
-          go false e = e
+        low x i b = false_from_ne_true (is_child p a x) (λ e. ⊎_elim (λ s. not_before-same x.0 r.0 (ap (λ z. z.0) s) b) (λ l. not_both x.0 r.0 b l) (from_on x i (child_late x i e)))
 
       -- a row deeper than a child of p has that child before it
       deeper : (m o : List ℕ) (ms : Names) → r.0 ≡ p ++ m ∷ o ∷ ms → ⊥
@@ -131,17 +121,16 @@ module _ {V : Type 0} where
           go (m ∷ o ∷ ms) e = deeper m o ms e
 
         no_child : (x : Names × V) → In rs x → is_child p a x ≡ false
-        no_child x i = go (is_child p a x) refl where
+        no_child x i = false_from_ne_true (is_child p a x) no where
           after : is_child p a x ≡ true → before r.0 x.0 ≡ true → ⊥
           after e l =
-              let d = is_child_of x e in
+              let d = is_child_of p a x e in
               let lo = before-le p r.0 (before_then_le p (p ++ behind a ∷ []) r.0 (self_place p a) (not_before-le r.0 (p ++ behind a ∷ []) late)) in
               no_under (between p r.0 x.0 lo (before-le r.0 x.0 l) (last_name x.0 ∷ [], d.0))
 
-          go : (t : Bool) → is_child p a x ≡ t → is_child p a x ≡ false
-          go true e =
-              absurd (⊎_elim (λ s. both_ways (is_eq (by_names (parent r.0) p)) t (ap (λ z. is_eq (by_names (parent z.0) p)) (sym s) ∙ (and_parts (is_eq (by_names (parent x.0) p)) (is_lt (by_bytes a (last_name x.0))) e).0)) (after e) (from_on x i (child_late x i e)))
-          go false e = e
+          no : is_child p a x ≡ true → ⊥
+          no e =
+              ⊎_elim (λ s. both_ways (is_eq (by_names (parent r.0) p)) t (ap (λ z. is_eq (by_names (parent z.0) p)) (sym s) ∙ (and_parts (is_eq (by_names (parent x.0) p)) (is_lt (by_bytes a (last_name x.0))) e).0)) (after e) (from_on x i (child_late x i e))
 
     least : child_at rs p a ≡ child_path rs p a
     least = head_first p (p ++ behind a ∷ []) rs ∙ go (first (not_before (p ++ behind a ∷ [])) rs) refl where

@@ -1,6 +1,6 @@
 -- The first row that passes a test. Assumes nothing.
 use Rattle.std.proofs.Common.{◌≡◌, ℕ, Bool, true, false, cond, ◌⊎◌, List, [], ◌∷◌, ◌++◌, is_some, Some, None, Option, sym, refl, ap, ◌∙◌, subst, inl, inr, ⊎_elim, append_assoc, append-nil}
-use Rattle.std.proofs.lemmas.Bool.{true≢false, and_parts, cond-true, cond-false, both_ways}
+use Rattle.std.proofs.lemmas.Bool.{true≢false, and_parts, cond-true, cond-false, both_ways, false_from_ne_true}
 use Rattle.std.specs.Option.{option_map}
 use Rattle.paths.specs.Names.{parent}
 use Rattle.rows.specs.Maps.{Names, before, first, is_at, at, has, above, ascending, rooted}
@@ -66,10 +66,7 @@ module _ {V : Type 0} where
   holds_at rs a p e i =
       ap (option_map (λ r. r.1)) (first-is (is_at p) rs a (p, e) i (is_same p p refl) low) where
         low : (x : Names × V) → In rs x → before x.0 p ≡ true → is_at p x ≡ false
-        low x j b = go (is_at p x) refl where
-          go : (t : Bool) → is_at p x ≡ t → is_at p x ≡ false
-          go true h = absurd (not_before_self p (subst (λ z. before z p ≡ true) (same-is x.0 p h) b))
-          go false h = h
+        low x j b = false_from_ne_true (is_at p x) (λ h. not_before_self p (subst (λ z. before z p ≡ true) (same-is x.0 p h) b))
 
   pub at-holds : (rs : List (Names × V)) (p : Names) (e : V) → at rs p ≡ Some e → In rs (p, e)
   at-holds rs p e h = go (first (is_at p) rs) refl h where

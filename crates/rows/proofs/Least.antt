@@ -1,6 +1,6 @@
 -- The least name behind a name, as the children of a path have it. Assumes nothing.
 use Rattle.std.proofs.Common.{◌≡◌, ℕ, ◌+◌, ◌<◌, ◌≤◌, Bool, true, false, cond, ◌⊎◌, List, [], ◌∷◌, ◌++◌, is_some, Some, None, Option, Ordering, Less, Equal, Greater, sym, refl, ap, ◌∙◌, subst, inl, inr, ⊎_elim, arith}
-use Rattle.std.proofs.lemmas.Bool.{true≢false, both_ways, and_parts, and_from, and_right}
+use Rattle.std.proofs.lemmas.Bool.{true≢false, both_ways, and_parts, and_from, and_right, false_from_ne_true}
 use Rattle.std.specs.Cmp.{nat_cmp_total}
 use Rattle.std.specs.Cmp.Lexicographic.{lists_total}
 use Rattle.std.specs.Option.{option_map}
@@ -100,19 +100,12 @@ module _ {V : Type 0} where
   named rs p k = has rs (child p k)
 
   module _ (rs : List (Names × V)) (up : ascending rs ≡ true) (p : Names) where
-    -- a name that no row has
-    absent : (k : List ℕ) → (named rs p k ≡ true → ⊥) → named rs p k ≡ false
-    absent k f = go (named rs p k) refl where
-      go : (t : Bool) → named rs p k ≡ t → named rs p k ≡ false
-      go true e = absurd (f e)
-      go false e = e
-
     pub least-child : (a : List ℕ) → (o : Option (List ℕ)) × (child_path rs p a ≡ option_map (child p) o) × Least (named rs p) a o
     least-child a = go (first (is_child p a) rs) refl where
       go : (f : Option (Names × V)) → first (is_child p a) rs ≡ f → (o : Option (List ℕ)) × (child_path rs p a ≡ option_map (child p) o) × Least (named rs p) a o
       go None e = (None, ap (option_map (λ r. r.0)) e, none) where
         none : (k : List ℕ) → less a k ≡ true → named rs p k ≡ false
-        none k l = absent k (λ t. let d = there rs (child p k) t in both_ways (is_child p a (child p k, d.0)) (first-none (is_child p a) rs e (child p k, d.0) (at-holds rs (child p k) d.0 d.1)) (child_passes p a k d.0 l))
+        none k l = false_from_ne_true (named rs p k) (λ t. let d = there rs (child p k) t in both_ways (is_child p a (child p k, d.0)) (first-none (is_child p a) rs e (child p k, d.0) (at-holds rs (child p k) d.0 d.1)) (child_passes p a k d.0 l))
       go (Some r) e = (Some n, ap (option_map (λ r. r.0)) e ∙ ap Some c.0, (subst (λ z. has rs z ≡ true) c.0 (in-there rs up r s.0), c.1, low)) where
         n : List ℕ
         n = last_name r.0
@@ -124,7 +117,7 @@ module _ {V : Type 0} where
         c = is_child_of p a r s.1
 
         low : (k : List ℕ) → less a k ≡ true → less k n ≡ true → named rs p k ≡ false
-        low k l u = absent k no where
+        low k l u = false_from_ne_true (named rs p k) no where
           near : before (child p k) r.0 ≡ true
           near = ap (before (child p k)) c.0 ∙ child-order p k n ∙ u
 

@@ -1,5 +1,5 @@
 -- The order of names, as tests. Assumes nothing.
-use Rattle.std.proofs.Common.{◌≡◌, ℕ, true, List, [], ◌∷◌, ◌++◌, Ordering, Less, Equal, Greater, sym, refl, ap, ◌∙◌, subst}
+use Rattle.std.proofs.Common.{◌≡◌, ℕ, ◌<◌, arith, length, true, List, [], ◌∷◌, ◌++◌, Ordering, Less, Equal, Greater, sym, refl, ap, ◌∙◌, subst}
 use Rattle.std.proofs.lemmas.Bool.{true≢false}
 use Rattle.std.specs.Cmp.{nat_cmp_total}
 use Rattle.std.specs.Cmp.Lexicographic.{lists_total}
@@ -74,6 +74,11 @@ last_child (m ∷ o ∷ p) n = last_child (o ∷ p) n
 pub as_child : (m : List ℕ) (p : List (List ℕ)) → m ∷ p ≡ parent (m ∷ p) ++ last_name (m ∷ p) ∷ []
 as_child m [] = refl
 as_child m (o ∷ p) = ap (λ l. m ∷ l) (as_child o p)
+
+-- a name that is not empty comes behind the empty one
+pub some_name : (n : List ℕ) → 0 < length n → is_lt (by_bytes [] n) ≡ true
+some_name [] h = absurd (omega arith)
+some_name (x ∷ n) h = refl
 
 pub no_name_least : (a : List ℕ) → is_lt (by_bytes a []) ≡ true → ⊥
 no_name_least [] h = true≢false (sym h)

@@ -4,7 +4,8 @@ use native.Mathlib.Numerals.{unary_clauses}
 use mathlib.Core.Bool.{and_assoc}
 use mathlib.Core.List.{map-append}
 use Rattle.std.proofs.lemmas.List.{take-map, drop-map}
-use Rattle.std.proofs.lemmas.Bool.{and_parts}
+use Rattle.std.proofs.Math.Bool.{and-true}
+use Rattle.std.proofs.lemmas.Bool.{and_parts, false_from_ne_true}
 use Rattle.std.proofs.lemmas.Option.{none-some, same_Some}
 use Rattle.std.specs.Bool.{then_some}
 use Rattle.std.specs.Option.{option_copied}
@@ -24,13 +25,9 @@ use Rattle.rows.proofs.Changed.{under-says}
 
 -- what is under a path does not come before it
 pub under_late : (p q : Names) → under p q ≡ true → before q p ≡ false
-under_late p q u = go (before q p) refl where
+under_late p q u = false_from_ne_true (before q p) (λ e. not_before_self p (le-before p q p low e)) where
   low : is_le (by_names p q) ≡ true
   low = let w = (under-says p q).0 u in ap (λ z. is_le (by_names p z)) w.1 ∙ prefix_first p w.0
-
-  go : (t : Bool) → before q p ≡ t → t ≡ false
-  go true e = absurd (not_before_self p (le-before p q p low e))
-  go false e = refl
 
 module _ {V : Type 0} where
   pub ascending-drop : (k : ℕ) (rs : List (Names × V)) → ascending rs ≡ true → ascending (drop k rs) ≡ true
@@ -56,10 +53,7 @@ module _ {V : Type 0} where
   -- rows and others that rise, and the last of the rows before the first of the others
   last_joins : (new : List (Row V)) (ds : List (Names × V)) → ascending ds ≡ true → (y : Row V) → Some y ≡ slice_get new (length new - 1) → ascending (rows_of new ++ ds) ≡ (ascending (rows_of new) && above (names y.path) ds)
   last_joins [] ds up y t = absurd (none-some y (sym t))
-  last_joins (n ∷ []) ds up y t = ap (λ b. above (names n.path) ds && b) up ∙ and-true (above (names n.path) ds) ∙ ap (λ r. above (names r.path) ds) (sym (same_Some y n t)) where
-    and-true : (b : Bool) → (b && true) ≡ b
-    and-true true = refl
-    and-true false = refl
+  last_joins (n ∷ []) ds up y t = ap (λ b. above (names n.path) ds && b) up ∙ and-true (above (names n.path) ds) ∙ ap (λ r. above (names r.path) ds) (sym (same_Some y n t))
   last_joins (n ∷ m ∷ new) ds up y t =
       ap (λ b. before (names n.path) (names m.path) && b) (last_joins (m ∷ new) ds up y (simp unary_clauses (simp unary_clauses at t))) ∙ sym (and_assoc (before (names n.path) (names m.path)) (ascending (rows_of (m ∷ new))) (above (names y.path) ds))
 

@@ -1,7 +1,7 @@
 -- The rows of a table, when it is edited. Assumes nothing.
 use Rattle.std.proofs.Common.{◌≡◌, ℕ, ◌+◌, ◌-◌, ◌≤◌, Bool, true, false, cond, not, List, [], ◌∷◌, ◌++◌, length, take, drop, set, filter, slice_range, Decides, Result, Ok, Err, ◌↔◌, sym, refl, ap, ◌∙◌, arith, rules}
 use mathlib.Core.List.{map-append}
-use Rattle.std.proofs.lemmas.List.{same_lists, places, map-set, length-map, length-append, length-take, length-drop, take-map, drop-map}
+use Rattle.std.proofs.lemmas.List.{same_lists, places, map-set, length-map, length-set, length-append, length-take, length-drop, take-map, drop-map}
 use Rattle.std.proofs.lemmas.Bool.{true≢false}
 use Rattle.std.proofs.lemmas.Bool.Decides.{same_from_decides}
 use Rattle.std.specs.Result.{is_err, IsOk, OnOk}
@@ -55,21 +55,37 @@ module _ {V : Type 0} where
         placed : (rs : List (Row V)) → rows_of (take at rs ++ (new ++ drop at rs)) ≡ take at (rows_of rs) ++ (rows_of new ++ drop at (rows_of rs))
         placed rs = simp (map-append, take-map, drop-map)
 
-  -- the row at p gets the value v
-  pub listed_set : (xs : List (Row V)) (p : Path) (v : V) (i : ℕ) → ascending (rows_of xs) ≡ true → Here xs (names p) i → rows_of (set xs i (record { path = p; value = v })) ≡ replaced (rows_of xs) (names p) v
-  listed_set xs p v i up here =
-      map-set row_of xs i (record { path = p; value = v }) ∙ ap (λ k. set (rows_of xs) k (names p, v)) here.value ∙ set_lead (rows_of xs) up (names p) v here.there
+  -- the row at p gets the value v, written through the slice
+  module _ (xs shown : List (Row V)) (p : Path) (v : V) (i : ℕ) (same : shown ≡ xs) where
+    abbrev one : Row V
+    one = record { path = p; value = v }
 
-  -- the new rows are appended, and then moved to their place
-  module _ (xs new all shown moved : List (Row V)) (at : ℕ) (is : all ≡ xs ++ new) (same : shown ≡ all) (to : moved ≡ take at shown ++ (drop (length shown - length new) shown ++ slice_range shown at (length shown - length new))) (le : at ≤ length xs) where
+    set_in : refill (length xs) xs (set shown i one) ≡ set xs i one
+    set_in = written xs (set shown i one) (set xs i one) (ap (λ ys. set ys i one) same) (length-set xs i one)
+
+    pub length-set_in : length (refill (length xs) xs (set shown i one)) ≡ length xs
+    length-set_in = ap length set_in ∙ length-set xs i one
+
+    pub listed_set : ascending (rows_of xs) ≡ true → Here xs (names p) i → rows_of (refill (length xs) xs (set shown i one)) ≡ replaced (rows_of xs) (names p) v
+    listed_set up here =
+        ap rows_of set_in ∙ map-set row_of xs i one ∙ ap (λ k. set (rows_of xs) k (names p, v)) here.value ∙ set_lead (rows_of xs) up (names p) v here.there
+
+  -- the new rows are appended, and then moved to their place among the rows that were asked
+  module _ (rs xs new all shown moved : List (Row V)) (at : ℕ) (asked : rows_of rs ≡ rows_of xs) (found : Spliced rs new at) (is : all ≡ xs ++ new) (same : shown ≡ all) (to : moved ≡ take at shown ++ (drop (length shown - length new) shown ++ slice_range shown at (length shown - length new))) where
+    place : Spliced xs new at
+    place = spliced_in rs xs new asked at found
+
     inserted : refill (length all) all moved ≡ take at xs ++ (new ++ drop at xs)
-    inserted = written all moved (take at xs ++ (new ++ drop at xs)) (to ∙ moved_in xs new shown at (same ∙ is) le) (simp (is, length-append, length-take, length-drop) (omega arith))
+    inserted = let le : at ≤ length xs = place.within in written all moved (take at xs ++ (new ++ drop at xs)) (to ∙ moved_in xs new shown at (same ∙ is) le) (simp (is, length-append, length-take, length-drop) (omega arith))
 
     pub length-inserted : length (refill (length all) all moved) ≡ length xs + length new
-    length-inserted = ap length inserted ∙ simp (length-append, length-take, length-drop) (omega arith)
+    length-inserted = let le : at ≤ length xs = place.within in ap length inserted ∙ simp (length-append, length-take, length-drop) (omega arith)
 
-    pub listed_inserted : Spliced xs new at → rows_of (refill (length all) all moved) ≡ spliced (rows_of new) (rows_of xs)
-    listed_inserted place = ap rows_of inserted ∙ sym place.rows
+    pub listed_inserted : rows_of (refill (length all) all moved) ≡ spliced (rows_of new) (rows_of xs)
+    listed_inserted = ap rows_of inserted ∙ sym place.rows
+
+    pub rises-inserted : ascending (rows_of (refill (length all) all moved)) ≡ true
+    rises-inserted = ap ascending listed_inserted ∙ place.rises
 
   -- the rows that do not lie under a path
   abbrev pub is_apart : Names → Row V → Bool

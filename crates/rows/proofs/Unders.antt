@@ -77,10 +77,6 @@ among-map n k (r ∷ ks) q = go (by_bytes n k) (among-map n k ks q) where
   go Equal h = ap (λ t. is_eq (by_names r q) || t) h
   go Greater h = h
 
-none-map : (n : List ℕ) (ks : List Names) → among (map (λ r. n ∷ r) ks) [] ≡ false
-none-map n [] = refl
-none-map n (r ∷ ks) = none-map n ks
-
 -- the prefixes of a path are what it lies at or below
 pub among-prefixes : (p q : Names) → among (prefixes p) q ≡ under q p
 among-prefixes [] [] = refl

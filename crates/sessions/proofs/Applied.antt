@@ -17,7 +17,7 @@ use Rattle.marks.proofs.Noted.{Writes, writes}
 use Rattle.sessions.specs.Sessions.{room_of}
 
 -- the mark that was asked for, over what stands at the path
-pub mark_is : (a : Action) (m : List MarkRow) (e : List Row) (p : Names) (r o : Option Mark) (v : Option Entry) → r ≡ new_mark a o v → o ≡ at m p → v ≡ at (merged m e) p → new_mark a (at m p) (at (merged m e) p) ≡ r
+mark_is : (a : Action) (m : List MarkRow) (e : List Row) (p : Names) (r o : Option Mark) (v : Option Entry) → r ≡ new_mark a o v → o ≡ at m p → v ≡ at (merged m e) p → new_mark a (at m p) (at (merged m e) p) ≡ r
 mark_is a m e p r o v h f k = sym (h ∙ ap (λ z. new_mark a z v) f ∙ ap (new_mark a (at m p)) k)
 
 -- what `write` asks
@@ -41,7 +41,7 @@ module _ (m : List MarkRow) (e : List Row) (lm : layered m ≡ true) (le : (asce
         some_is : {u v : Mark} → ◌≡◌ {A = Option Mark} (Some u) (Some v) → u ≡ v
         some_is e = cc
 
-  pub applied_some : (a : Action) → refused_at (merged m e) (room_of m) (lacks m p) p a ≡ None → (x : Mark) → new_mark a (at m p) (at (merged m e) p) ≡ Some x → Writable x m e p (marked m e p a)
+  applied_some : (a : Action) → refused_at (merged m e) (room_of m) (lacks m p) p a ≡ None → (x : Mark) → new_mark a (at m p) (at (merged m e) p) ≡ Some x → Writable x m e p (marked m e p a)
   applied_some (Put v) h x n = by_writes (Put v) h (writes m e lm le (room_of m) (lacks m p) p (Put v) refl h) x n
   applied_some (Mkdir k) h x n = by_writes (Mkdir k) h (writes m e lm le (room_of m) (lacks m p) p (Mkdir k) refl h) x n
   applied_some (Chmod k) h x n = by_writes (Chmod k) h (writes m e lm le (room_of m) (lacks m p) p (Chmod k) refl h) x n
@@ -50,8 +50,16 @@ module _ (m : List MarkRow) (e : List Row) (lm : layered m ≡ true) (le : (asce
   no_mark : (a : Action) → Writes m e p a → new_mark a (at m p) (at (merged m e) p) ≡ None → a ≡ Remove
   no_mark a w n = absurd (true≢false (sym (ap is_some w.new) ∙ ap is_some n))
 
-  pub applied_none : (a : Action) → refused_at (merged m e) (room_of m) (lacks m p) p a ≡ None → new_mark a (at m p) (at (merged m e) p) ≡ None → a ≡ Remove
+  applied_none : (a : Action) → refused_at (merged m e) (room_of m) (lacks m p) p a ≡ None → new_mark a (at m p) (at (merged m e) p) ≡ None → a ≡ Remove
   applied_none (Put v) h n = no_mark (Put v) (writes m e lm le (room_of m) (lacks m p) p (Put v) refl h) n
   applied_none (Mkdir k) h n = no_mark (Mkdir k) (writes m e lm le (room_of m) (lacks m p) p (Mkdir k) refl h) n
   applied_none (Chmod k) h n = no_mark (Chmod k) (writes m e lm le (room_of m) (lacks m p) p (Chmod k) refl h) n
   applied_none Remove h n = refl
+
+  -- the same of the mark that was asked for, over the mark and the entry that were read
+  module _ (a : Action) (granted : refused_at (merged m e) (room_of m) (lacks m p) p a ≡ None) (r o : Option Mark) (v : Option Entry) (asked : r ≡ new_mark a o v) (mark : o ≡ at m p) (entry : v ≡ at (merged m e) p) where
+    pub to_write : (x : Mark) → Some x ≡ r → Writable x m e p (marked m e p a)
+    to_write x h = applied_some a granted x (mark_is a m e p r o v asked mark entry ∙ sym h)
+
+    pub to_remove : None ≡ r → a ≡ Remove
+    to_remove h = applied_none a granted (mark_is a m e p r o v asked mark entry ∙ sym h)

@@ -14,7 +14,7 @@ use Rattle.edits.proofs.Outcomes.{bad_refusal, good-refusal, refused-outcome, gr
 use Rattle.marks.specs.Marks.{MarkRow, merged, layered}
 use Rattle.marks.specs.Edits.{marked, lacks}
 use Rattle.marks.proofs.Merges.{layer_parts}
-use Rattle.marks.proofs.Edited.{merged-marked}
+use Rattle.marks.proofs.Edited.{entries-marked}
 use Rattle.marks.proofs.Noted.{length_marked, lacks-granted}
 use Rattle.sessions.specs.Sessions.{room_of, marked_in, refusal_over, marks_after}
 
@@ -45,7 +45,7 @@ module _ (m : List MarkRow) (e : List Row) (lm : layered m ≡ true) (le : (asce
   judged-good : (p : Names) → judge s ≡ Ok p → fine p ≡ true → refusal_over m e s a ≡ None → SessionOutcome m (marked m e p a) e s a (Ok tt)
   judged-good p j good n =
       let h = sym (good-refusal (merged m e) (room_of m) (lacks m) s a p j) ∙ n in
-      granted-outcome (merged m e) (room_of m) (lacks m) s a p j h (merged (marked m e p a) e) (room_of (marked m e p a)) (lacks (marked m e p a)) (merged-marked m e lm le p good (room_of m) (lacks m p) a h)
+      granted-outcome (merged m e) (room_of m) (lacks m) s a p j h (merged (marked m e p a) e) (room_of (marked m e p a)) (lacks (marked m e p a)) (entries-marked m e lm le p (room_of m) (lacks m p) a h)
       (omega (arith, few, length_marked m e p (layer_parts m lm).0 a, granted-room (merged m e) (room_of m) (lacks m p) p a h))
       (λ r. lacks-granted m e lm le (room_of m) (lacks m p) p a r h)
 

@@ -9,7 +9,7 @@ use Rattle.edits.proofs.Granted.{granted-remove, granted-room}
 use Rattle.marks.specs.declared.mark.Mark.TheVariants.{Whiteout}
 use Rattle.marks.specs.Marks.{MarkRow, merged, layered}
 use Rattle.marks.specs.Edits.{written, shows_below, removed, lacks}
-use Rattle.marks.proofs.Merges.{merged_tree, layer_parts, tree_parts}
+use Rattle.marks.proofs.Merges.{layer_parts, merged-closed}
 use Rattle.marks.proofs.Grows.{ProperDirs, dirs-above, dirs-without, layered-without}
 use Rattle.marks.proofs.Edited.{layered-marked}
 use Rattle.marks.proofs.Noted.{length_marked, length-written}
@@ -31,21 +31,15 @@ module _ (m : List MarkRow) (e : List Row) (lm : layered m ≡ true) (le : (asce
   taken_dirs : ProperDirs (merged m' e) p
   taken_dirs =
       subst (λ z. ProperDirs (merged z e) p) (sym is)
-      (dirs-without m e lm le p (dirs-above (merged m e) (tree_parts (merged m e) (merged_tree m e lm le)).1 p (granted-remove (merged m e) (room_of m) (lacks m p) p granted).1))
-
-  shown-is : shows_below m e p ≡ true → removed m e p ≡ written Whiteout (without p m) e p
-  unfolding removed
-  shown-is h = cond-true (shows_below m e p) (written Whiteout (without p m) e p) (without p m) h
-
-  hidden-is : shows_below m e p ≡ false → removed m e p ≡ without p m
-  unfolding removed
-  hidden-is h = cond-false (shows_below m e p) (written Whiteout (without p m) e p) (without p m) h
+      (dirs-without m e lm le p (dirs-above (merged m e) (merged-closed m e lm le) p (granted-remove (merged m e) (room_of m) (lacks m p) p granted).1))
 
   taken_shown : shows_below m e p ≡ true → written Whiteout m' e p ≡ removed m e p
-  taken_shown h = ap (λ z. written Whiteout z e p) is ∙ sym (shown-is h)
+  unfolding removed
+  taken_shown h = ap (λ z. written Whiteout z e p) is ∙ sym (cond-true (shows_below m e p) (written Whiteout (without p m) e p) (without p m) h)
 
   taken_hidden : shows_below m e p ≡ false → m' ≡ removed m e p
-  taken_hidden h = is ∙ sym (hidden-is h)
+  unfolding removed
+  taken_hidden h = is ∙ sym (cond-false (shows_below m e p) (written Whiteout (without p m) e p) (without p m) h)
 
   taken_grows : shows_below m e p ≡ true → layered (written Whiteout m' e p) ≡ true
   taken_grows h = ap layered (taken_shown h) ∙ layered-marked m e lm le p good (room_of m) (lacks m p) Remove granted

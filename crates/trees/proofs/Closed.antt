@@ -1,11 +1,16 @@
 -- Rows that are closed: each path is good, and its parent is a directory. Assumes nothing.
 use Rattle.std.proofs.Common.{◌≡◌, true, List, [], ◌∷◌, ◌&&◌, is_some, Some, None, Option, sym, refl, ap, ◌∙◌}
+use Rattle.std.proofs.lemmas.Bool.{and_parts}
 use Rattle.paths.specs.Names.{parent}
 use Rattle.rows.specs.Maps.{Names, at, has, ascending, rooted}
 use Rattle.rows.proofs.Firsts.{there}
 use Rattle.trees.specs.declared.entry.Entry.{Entry}
 use Rattle.trees.specs.Entries.{Row, is_dir, in_range, fine, grown, closed}
 use Rattle.trees.proofs.Grown.{Sound, grown_head, grown_by, grown-rooted, sound-at}
+
+-- rows of a tree rise and are closed
+pub tree_parts : (rs : List Row) → (ascending rs && closed rs rs) ≡ true → (ascending rs ≡ true) × (closed rs rs ≡ true)
+tree_parts rs h = and_parts (ascending rs) (closed rs rs) h
 
 -- it is what `grown` says of entries
 pub closed-grown : (all rs : List Row) → closed all rs ≡ grown in_range is_dir all rs

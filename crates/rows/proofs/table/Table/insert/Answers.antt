@@ -5,7 +5,7 @@ use Rattle.std.proofs.lemmas.List.{length-map}
 use Rattle.rows.specs.Maps.{ascending}
 use Rattle.rows.specs.Rows.{row_of, rows_of}
 use Rattle.rows.specs.Tables.{spliced}
-use Rattle.rows.proofs.Tables.{went_well, spliced_in, length-inserted, listed_inserted}
+use Rattle.rows.proofs.Tables.{went_well, spliced_in, length-inserted, listed_inserted, rises-inserted}
 use Rattle.rows.proofs.table.Table.insert.Goals as goal
 
 pub invariant_of-self-2 : goal.invariant_of-self-2
@@ -13,13 +13,11 @@ invariant_of-self-2 g c =
     let xs = c.args.self.now.rows.items in
     let ns = c.args.new.now in
     let all = c.try_extend_from_slice.new.self.items in
-    let shown = c.as_mut_slice.result.now in
-    let place = spliced_in c.sorted.result.rows.now xs ns c.sorted.ensures c.in-Some.at c.in-Some.ensures in
     let well = went_well c.try_extend_from_slice.result (sym c.is_err.ensures.value ∙ c.if-is_err.false) c.try_extend_from_slice.ensures.variant c.try_extend_from_slice.ensures.ok in
     let room : length xs + length ns ≤ g.row.N = well.1 in
     record {
-      fits = omega (arith, room, length-inserted xs ns all shown c.last_to.new.items c.in-Some.at well.0 c.as_mut_slice.ensures.value c.last_to.ensures place.within);
-      rises = ap ascending (listed_inserted xs ns all shown c.last_to.new.items c.in-Some.at well.0 c.as_mut_slice.ensures.value c.last_to.ensures place.within place) ∙ place.rises;
+      fits = omega (arith, room, length-inserted c.sorted.result.rows.now xs ns all c.as_mut_slice.result.now c.last_to.new.items c.in-Some.at c.sorted.ensures c.in-Some.ensures well.0 c.as_mut_slice.ensures.value c.last_to.ensures);
+      rises = rises-inserted c.sorted.result.rows.now xs ns all c.as_mut_slice.result.now c.last_to.new.items c.in-Some.at c.sorted.ensures c.in-Some.ensures well.0 c.as_mut_slice.ensures.value c.last_to.ensures;
     }
 
 pub returns-clause-answer : goal.returns-clause-answer
@@ -36,6 +34,5 @@ returns-clause-rows g c =
     let xs = c.args.self.now.rows.items in
     let ns = c.args.new.now in
     let all = c.try_extend_from_slice.new.self.items in
-    let place = spliced_in c.sorted.result.rows.now xs ns c.sorted.ensures c.in-Some.at c.in-Some.ensures in
     let well = went_well c.try_extend_from_slice.result (sym c.is_err.ensures.value ∙ c.if-is_err.false) c.try_extend_from_slice.ensures.variant c.try_extend_from_slice.ensures.ok in
-    listed_inserted xs ns all c.as_mut_slice.result.now c.last_to.new.items c.in-Some.at well.0 c.as_mut_slice.ensures.value c.last_to.ensures place.within place
+    listed_inserted c.sorted.result.rows.now xs ns all c.as_mut_slice.result.now c.last_to.new.items c.in-Some.at c.sorted.ensures c.in-Some.ensures well.0 c.as_mut_slice.ensures.value c.last_to.ensures

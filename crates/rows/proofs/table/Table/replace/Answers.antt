@@ -1,12 +1,11 @@
 -- The row that was found gets the value.
 use Rattle.std.proofs.Common.{◌≤◌, length, set, sym, ap, ◌∙◌, arith}
-use Rattle.std.proofs.lemmas.List.{length-set}
 use Rattle.paths.specs.Paths.{names}
 use Rattle.rows.specs.Maps.{at, ascending}
 use Rattle.rows.specs.Rows.{rows_of}
 use Rattle.rows.specs.Tables.{listed}
 use Rattle.rows.proofs.Changed.{ascending-replaced, replaced-none}
-use Rattle.rows.proofs.Tables.{here_in, written, listed_set}
+use Rattle.rows.proofs.Tables.{here_in, length-set_in, listed_set}
 use Rattle.rows.proofs.table.Table.replace.Goals as goal
 
 pub returns-in_default-clause-rows : goal.returns-in_default-clause-rows
@@ -25,12 +24,13 @@ invariant_of-self g c =
     let p = names c.args.path.now in
     let here = here_in c.sorted.result.rows.now t.rows.items c.sorted.ensures p c.in-Some.i c.in-Some.ensures in
     let fits : length t.rows.items ≤ g.row.N = t.fits in
-    let e = written t.rows.items (set c.as_mut_slice.result.now c.in-Some.i (record { path = c.args.path.now; value = c.args.value })) (set t.rows.items c.in-Some.i (record { path = c.args.path.now; value = c.args.value })) (ap (λ xs. set xs c.in-Some.i (record { path = c.args.path.now; value = c.args.value })) c.as_mut_slice.ensures.value) (length-set t.rows.items c.in-Some.i (record { path = c.args.path.now; value = c.args.value })) in
-    record { fits = omega (arith, fits, ap length e, length-set t.rows.items c.in-Some.i (record { path = c.args.path.now; value = c.args.value })); rises = ap (λ xs. ascending (rows_of xs)) e ∙ ap ascending (listed_set t.rows.items c.args.path.now c.args.value c.in-Some.i t.rises here) ∙ ascending-replaced p c.args.value (listed t) ∙ t.rises }
+    record {
+      fits = omega (arith, fits, length-set_in t.rows.items c.as_mut_slice.result.now c.args.path.now c.args.value c.in-Some.i c.as_mut_slice.ensures.value);
+      rises = ap ascending (listed_set t.rows.items c.as_mut_slice.result.now c.args.path.now c.args.value c.in-Some.i c.as_mut_slice.ensures.value t.rises here) ∙ ascending-replaced p c.args.value (listed t) ∙ t.rises;
+    }
 
 pub returns-clause-rows : goal.returns-clause-rows
 returns-clause-rows g c =
     let t = c.args.self.now in
-    let p = names c.args.path.now in
-    let here = here_in c.sorted.result.rows.now t.rows.items c.sorted.ensures p c.in-Some.i c.in-Some.ensures in
-    ap rows_of (written t.rows.items (set c.as_mut_slice.result.now c.in-Some.i (record { path = c.args.path.now; value = c.args.value })) (set t.rows.items c.in-Some.i (record { path = c.args.path.now; value = c.args.value })) (ap (λ xs. set xs c.in-Some.i (record { path = c.args.path.now; value = c.args.value })) c.as_mut_slice.ensures.value) (length-set t.rows.items c.in-Some.i (record { path = c.args.path.now; value = c.args.value }))) ∙ listed_set t.rows.items c.args.path.now c.args.value c.in-Some.i t.rises here
+    let here = here_in c.sorted.result.rows.now t.rows.items c.sorted.ensures (names c.args.path.now) c.in-Some.i c.in-Some.ensures in
+    listed_set t.rows.items c.as_mut_slice.result.now c.args.path.now c.args.value c.in-Some.i c.as_mut_slice.ensures.value t.rises here
