@@ -1,11 +1,11 @@
 -- What lies below a path that has no child: nothing. Assumes nothing.
-use Rattle.std.proofs.Common.{◌≡◌, ℕ, ◌<◌, ◌≤◌, Bool, true, false, cond, not, leb, List, [], ◌∷◌, ◌++◌, length, is_some, Some, None, Option, sym, refl, ap, ◌∙◌, subst, arith}
+use Rattle.std.proofs.Common.{◌≡◌, ℕ, ◌≤◌, Bool, true, false, cond, not, leb, List, [], ◌∷◌, ◌++◌, length, is_some, Some, None, Option, sym, refl, ap, ◌∙◌, subst}
 use Rattle.std.proofs.lemmas.Bool.{true≢false, both_ways, and_parts, and_from, not-true, not_from_false, le-leb, false_from_ne_true}
 use Rattle.std.specs.Option.{option_map}
-use Rattle.std.specs.Ordering.{is_lt, is_eq}
+use Rattle.std.specs.Ordering.{is_lt}
 use Rattle.paths.specs.declared.Path.{Path}
-use Rattle.paths.specs.Names.{split, join, fault_in, good, parent, last_name}
-use Rattle.paths.specs.Order.{by_bytes, by_names}
+use Rattle.paths.specs.Names.{split, join, fault_in, good}
+use Rattle.paths.specs.Order.{by_bytes}
 use Rattle.paths.specs.Paths.{names, text}
 use Rattle.paths.proofs.Joins.{good_parts, join_split, plain-from-fault, not_empty}
 use Rattle.rows.specs.Maps.{Names, under, first, at, has, ascending, is_child, without}

@@ -1,6 +1,6 @@
 -- What an edit takes off the room of a flat tree. Assumes nothing.
 use Rattle.std.proofs.Common.{◌≡◌, ℕ, ◌+◌, ◌≤◌, true, false, not, List, length, Some, None, Option, Ok, Err, Result, sym, refl, ap, ◌∙◌, subst, arith}
-use Rattle.std.proofs.lemmas.Bool.{and_parts, cond-true}
+use Rattle.std.proofs.lemmas.Bool.{cond-true}
 use Rattle.rows.specs.Maps.{Names, under, at, has, ascending}
 use Rattle.rows.specs.Builds.{set_at}
 use Rattle.trees.specs.declared.entry.Entry.{Entry}

@@ -1,6 +1,5 @@
 -- What the changes of a flat tree do to its rows. Assumes nothing.
 use Rattle.std.proofs.Common.{◌≡◌, ◌≤◌, true, false, cond, List, [], ◌∷◌, Some, None, sym, subst}
-use Rattle.std.proofs.lemmas.Bool.{and_parts}
 use Rattle.rows.specs.Maps.{Names, at, ascending, has, replaced, without, rooted}
 use Rattle.rows.specs.Builds.{set_at}
 use Rattle.rows.specs.Tables.{spliced, splices}

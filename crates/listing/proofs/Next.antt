@@ -1,14 +1,14 @@
 -- The path that comes next: the first child, or the next sibling of the nearest prefix that has one. Assumes nothing.
-use Rattle.std.proofs.Common.{◌≡◌, ℕ, ◌<◌, Bool, true, false, List, [], ◌∷◌, ◌++◌, length, Some, None, Ordering, Less, Equal, Greater, sym, refl, ap, ◌∙◌, subst, ⊎_elim, append_assoc, append-nil, arith}
-use Rattle.std.proofs.lemmas.Bool.{true≢false, both_ways, and_parts, and_from, false_from_ne_true}
-use Rattle.std.specs.Ordering.{is_lt, is_eq, is_le, ordering_then}
-use Rattle.paths.specs.Names.{parent, last_name, Under}
+use Rattle.std.proofs.Common.{◌≡◌, ℕ, true, false, List, [], ◌∷◌, ◌++◌, Some, None, Ordering, Less, Equal, Greater, sym, refl, ap, ◌∙◌, subst, ⊎_elim, append_assoc, append-nil}
+use Rattle.std.proofs.lemmas.Bool.{true≢false, both_ways, false_from_ne_true}
+use Rattle.std.specs.Ordering.{is_lt, is_le, ordering_then}
+use Rattle.paths.specs.Names.{last_name, Under}
 use Rattle.paths.specs.Order.{by_bytes, by_names}
 use Rattle.paths.proofs.Laws.{bytes-exact, prefix_first, between}
 use Rattle.paths.proofs.Joins.{plain-from-fault, not_empty, Plain}
 use Rattle.rows.specs.Maps.{before, first, has, ascending, is_child, is_after}
 use Rattle.trees.specs.Entries.{Row, closed}
-use Rattle.rows.proofs.Orders.{before-le, not_before-same, not_both, le-before, same-is, is_same, shared, parent-child, last_child, as_child, no_name_least, some_name, is-less}
+use Rattle.rows.proofs.Orders.{before-le, not_before-same, not_both, le-before, shared, some_name, is-less}
 use Rattle.rows.proofs.Least.{is_child_of, child_passes}
 use Rattle.rows.proofs.Firsts.{In, first_some, first-none, first-least, first-is, first_no, there, at-holds, child-there, in-there}
 use Rattle.trees.proofs.Answering.{fine_parts}

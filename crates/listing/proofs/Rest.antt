@@ -1,13 +1,13 @@
 -- The rows that are left on a walk. Assumes nothing.
 use Rattle.std.proofs.Common.{◌≡◌, ℕ, Bool, true, false, cond, List, [], ◌∷◌, ◌++◌, is_some, Some, None, Option, sym, refl, ap, ◌∙◌, subst, inl, ⊎_elim}
-use Rattle.std.proofs.lemmas.Bool.{true≢false, and_parts, cond-true, cond-false, false_from_ne_true}
+use Rattle.std.proofs.lemmas.Bool.{true≢false, cond-true, cond-false, false_from_ne_true}
 use Rattle.std.specs.List.{concat}
 use Rattle.std.specs.Option.{option_map}
 use Rattle.paths.specs.declared.Path.{Path}
 use Rattle.paths.specs.Paths.{names}
 use Rattle.trees.specs.declared.entry.Entry.{Entry}
 use Rattle.rows.specs.Maps.{Names, before, first, is_at, is_after, at, ascending, path_after}
-use Rattle.trees.specs.Entries.{Entries, Row, closed}
+use Rattle.trees.specs.Entries.{Entries, Row}
 use Rattle.listing.specs.Lines.{line, lines}
 use Rattle.listing.specs.Walks.{from, from_at, texts, left}
 use Rattle.rows.proofs.Orders.{same-is, is_same, not_before_self, not_before-same, before-trans}

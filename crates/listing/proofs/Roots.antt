@@ -1,6 +1,6 @@
 -- The first row is the root's. Assumes nothing.
 use Rattle.std.proofs.Common.{◌≡◌, ℕ, true, false, List, [], ◌∷◌, is_some, Some, None, Option, sym, refl, ap, ◌∙◌, inl, ⊎_elim}
-use Rattle.std.proofs.lemmas.Bool.{true≢false, both_ways, and_parts, cond-true}
+use Rattle.std.proofs.lemmas.Bool.{true≢false, both_ways, cond-true}
 use Rattle.std.specs.Option.{option_map}
 use Rattle.trees.specs.declared.entry.Entry.{Entry}
 use Rattle.rows.specs.Maps.{before, is_at, at, has, ascending}

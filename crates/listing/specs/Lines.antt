@@ -1,8 +1,8 @@
 -- The listing of a tree: an mtree text, one line a path. Assumes nothing.
-use Rattle.std.specs.Prelude.{ℕ, zero, suc, ◌+◌, ◌/◌, ◌%◌, cond, List, [], ◌∷◌, ◌++◌, Some, None, decimal, Option, nat_lt}
+use Rattle.std.specs.Prelude.{ℕ, zero, suc, ◌+◌, ◌/◌, ◌%◌, cond, List, [], ◌∷◌, ◌++◌, decimal, nat_lt}
 use Rattle.paths.specs.Names.{join}
 use Rattle.words.specs.Printable.{printable}
-use Rattle.rows.specs.Maps.{Names, at}
+use Rattle.rows.specs.Maps.{Names}
 use Rattle.trees.specs.declared.entry.Entry.{Entry}
 use Rattle.trees.specs.declared.entry.Entry.TheVariants.{File, Dir}
 use Rattle.trees.specs.Entries.{Row}

@@ -17,7 +17,7 @@ use Rattle.rows.specs.Maps.{Names, before, first, ascending, rooted, has, is_chi
 use Rattle.rows.specs.Rows.{rows_of}
 use Rattle.rows.specs.Positions.{behind, lead, child_head, child_at}
 use Rattle.rows.proofs.Leads.{is_ahead, asked-at, not_ahead}
-use Rattle.rows.proofs.Orders.{before-le, not_before-same, not_both, same-is, is_same, shared, parent-child, as_child, no_name_least}
+use Rattle.rows.proofs.Orders.{before-le, not_before-same, not_both, same-is, is_same, shared, parent-child, as_child}
 use Rattle.rows.proofs.Least.{is_child_of}
 use Rattle.rows.proofs.Firsts.{In, first_some, first-none, first-least, first-is, first_no, there, at-holds, in-there, child-there}
 use Rattle.rows.proofs.Places.{Clean, clean_path, clean_at, not_before-le, before_then_le, under-place, self_place}

@@ -1,5 +1,5 @@
 -- The table with the new rows among its own.
-use Rattle.std.proofs.Common.{◌+◌, ◌≤◌, leb, length, sym, ap, ◌∙◌, arith}
+use Rattle.std.proofs.Common.{◌+◌, ◌≤◌, leb, length, sym, ◌∙◌, arith}
 use Rattle.std.proofs.lemmas.Bool.{and_from, le-leb}
 use Rattle.std.proofs.lemmas.List.{length-map}
 use Rattle.rows.specs.Maps.{ascending}

@@ -1,8 +1,7 @@
 -- The row that was found gets the value.
-use Rattle.std.proofs.Common.{◌≤◌, length, set, sym, ap, ◌∙◌, arith}
+use Rattle.std.proofs.Common.{◌≤◌, length, sym, ap, ◌∙◌, arith}
 use Rattle.paths.specs.Paths.{names}
 use Rattle.rows.specs.Maps.{at, ascending}
-use Rattle.rows.specs.Rows.{rows_of}
 use Rattle.rows.specs.Tables.{listed}
 use Rattle.rows.proofs.Changed.{ascending-replaced, replaced-none}
 use Rattle.rows.proofs.Tables.{here_in, length-set_in, listed_set}
