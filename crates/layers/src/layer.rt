@@ -1,4 +1,4 @@
-// A layer, with its rows whole from the start.
+// A layer: its rows, in one table.
 ghost use Rattle.std.specs.Prelude.{◌≡◌, true};
 ghost use Rattle.rows.specs.Tables.{listed};
 ghost use Rattle.marks.specs.Marks.{layered};

@@ -1,4 +1,5 @@
-// The fields of a line: a path word, then keywords, with one space between neighbours.
+// The fields of a line: a path word, then keywords, with one space between neighbours. No `Split` of the library: it has
+// the type of its closure in its own, which a field of a struct can't name.
 ghost use Rattle.std.specs.Prelude.{◌≡◌, [], MatchOption};
 ghost use Rattle.std.specs.Iterator.{YieldsFirstRef, item_count};
 ghost use Rattle.paths.specs.Pieces.{front, later, pieces};

@@ -15,7 +15,8 @@ use std::alloc::{AllocError, Global};
 use trees::entry::Entry;
 use trees::tree::Tree;
 
-// The listing, or the one line of a refusal.
+// The listing, or the one line of a refusal. Want of memory stands outside of it: it is no fault of any author,
+// and a caller lets it pass by `?`.
 pub type Report = Result<Vec<u8>, String>;
 
 // The listing of a tree, in at most 65,536 bytes.

@@ -1,4 +1,4 @@
-// Why a manifest is refused.
+// Why a line of a manifest is refused, or the whole.
 ghost use Rattle.std.specs.Prelude.{◌≡◌, Some};
 ghost use Rattle.words.specs.declared.fault.Cause.TheVariants.{Path as Faulty};
 ghost use Rattle.words.specs.Faults.{cause_fields};

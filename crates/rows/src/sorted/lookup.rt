@@ -1,4 +1,4 @@
-// Looking among sorted rows, and the two questions that answers.
+// Looking among sorted rows: the two questions that are asked of them.
 ghost use Rattle.std.specs.Prelude.{◌≡◌, ◌≤◌, true, false, [], length, slice_get, MatchOption};
 ghost use Rattle.std.specs.Option.{option_map, option_copied};
 ghost use Rattle.paths.specs.Paths.{names};
@@ -56,7 +56,7 @@ impl<'a, V> Sorted<'a, V> {
         self.rows.get(self.count_before(position))
     }
 
-    // Where the row at a path stands.
+    // Where the row at a path stands. `find` by it would take the row out twice.
     pub(crate) fn locate(&self, path: &Path) -> Option<usize>
         ensures { MatchOption result (at (rows_of self.now.rows.now) (names path.now) ≡ None) (λ i. Here self.now.rows.now (names path.now) i) }
     {
