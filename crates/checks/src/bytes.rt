@@ -61,11 +61,11 @@ fn wanted_alone(heap: Global, b: u8) -> Result<Vec<u8>, AllocError> {
 fn judge_bytes(
     rt: &(impl Abort + AllocGlobal),
     b: u8,
-    text: &Vec<u8>,
-    wanted: &Vec<u8>,
+    text: &[u8],
+    wanted: &[u8],
 ) -> Result<(), Fail> {
-    let said = outcome(rt.alloc(), text.as_slice())?;
-    assert_eq!(rt; said.as_bytes(), wanted.as_slice(), "{}", b);
+    let said = outcome(rt.alloc(), text)?;
+    assert_eq!(rt; said.as_bytes(), wanted, "{}", b);
     Ok(())
 }
 

@@ -54,8 +54,8 @@ fn marks(heap: Global, n: usize) -> Result<Vec<Row<Entry>>, Fail> {
     Ok(vec![in heap; Row { path, value }; n]?)
 }
 
-fn indexed(heap: Global, text: &str, rows: &mut Vec<Row<Entry>>) -> Result<String, AllocError> {
-    let mut said = told(heap, index(text.as_bytes(), rows.as_mut_slice()))?;
+fn indexed(heap: Global, text: &str, rows: &mut [Row<Entry>]) -> Result<String, AllocError> {
+    let mut said = told(heap, index(text.as_bytes(), rows))?;
     for row in rows.iter() {
         let path = String::from_utf8_lossy(heap, row.path.as_bytes())?;
         let entry = shown(heap, row.value)?;

@@ -6,7 +6,7 @@ ghost use Rattle.edits.specs.Edits.{refuse_if, value_fault, root_fault, parent_f
 
 use crate::action::Action;
 use paths::Path;
-use trees::entry::{DirMeta, Entry};
+use trees::entry::{DirMeta, Entry, MOST_MODE};
 use trees::fault::Fault;
 use trees::store::{Store, lost, present};
 
@@ -15,7 +15,7 @@ fn check_values(action: Action) -> Result<(), Fault>
 {
     let fine = match action {
         Action::Put(entry) => entry.is_file() && entry.is_in_range(),
-        Action::Mkdir(mode) | Action::Chmod(mode) => mode <= 0o7777,
+        Action::Mkdir(mode) | Action::Chmod(mode) => mode <= MOST_MODE,
         Action::Remove => true,
     };
     if !fine {

@@ -6,9 +6,12 @@ ghost use Rattle.marks.specs.Marks.{layered};
 use marks::mark::Mark;
 use rows::table::Table;
 
+// The most rows of a layer.
+pub const ROWS: usize = 192;
+
 // Whoever makes or changes the rows owes the rule of parents, which every value keeps.
 #[derive(Drop)]
 pub struct Layer {
-    pub rows: Table<Mark, 192>,
+    pub rows: Table<Mark, ROWS>,
     ghost grown: { layered (listed rows) ≡ true },
 }

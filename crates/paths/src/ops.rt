@@ -25,7 +25,7 @@ impl Path {
         Path::of_good(&[])
     }
 
-    // The path of a text, or what is wrong with the text.
+    // The path of a text, or what is wrong with the text. No `TryFrom`: at a call `parse` says more than `try_from`.
     pub fn parse(bytes: &[u8]) -> Result<Path, PathFault>
         ensures { Parsed bytes.now result }
     {

@@ -8,7 +8,7 @@ use std::error::Error;
 use std::fmt;
 use trees::fault::Fault;
 
-// Every kind of fault that a program may have to print.
+// Every kind of fault that a program may have to print. No `From`: at its one call each kind names itself.
 #[derive(Clone, Copy, PartialEq, Eq, Debug)]
 pub enum Reason {
     Tree(Fault),

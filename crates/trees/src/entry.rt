@@ -1,6 +1,9 @@
 // What stands at a path. The values may be out of range until a tree has judged them.
 ghost use Rattle.std.specs.Prelude.{◌≡◌, Some};
 
+// Modes have four octal digits.
+pub const MOST_MODE: u16 = 0o7777;
+
 #[derive(Clone, Copy, PartialEq, Eq)]
 pub struct FileMeta {
     pub mode: u16,
@@ -40,8 +43,8 @@ impl Entry {
         ensures { result ≡ in_range self }
     {
         match self {
-            Entry::File(file) => file.mode <= 0o7777 && file.size <= 1 << 40,
-            Entry::Dir(dir) => dir.mode <= 0o7777,
+            Entry::File(file) => file.mode <= MOST_MODE && file.size <= 1 << 40,
+            Entry::Dir(dir) => dir.mode <= MOST_MODE,
         }
     }
 

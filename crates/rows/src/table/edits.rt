@@ -9,7 +9,8 @@ use crate::row::Row;
 use crate::table::Table;
 use paths::Path;
 
-// Moves the last `count` elements to `at`, and those from there on up.
+// Moves the last `count` elements to `at`, and those from there on up. Apart from `insert`, since the check gives the part
+// of a slice no name there.
 fn last_to<T>(items: &mut [T], at: usize, count: usize)
     requires { at + count ≤ length items.old }
     ensures { items.new ≡ take at items.old ++ (drop (length items.old - count) items.old ++ slice_range items.old at (length items.old - count)) }

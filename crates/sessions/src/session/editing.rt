@@ -14,6 +14,7 @@ use crate::session::Session;
 use edits::action::Action;
 use edits::checks;
 use edits::editable::Editable;
+use layers::layer::ROWS;
 use layers::writing::put_rows;
 use marks::mark::Mark;
 use marks::writing::mark_after;
@@ -99,7 +100,7 @@ impl<T: Tree> Editable for Session<T> {
     ghost few = { λ t p. lacks_most (marks_in t) p };
 
     fn room(&self) -> usize {
-        192 - self.layer.count()
+        ROWS - self.layer.count()
     }
 
     fn need(&self, path: &[u8]) -> Result<usize, Fault> {
