@@ -6,7 +6,8 @@ use std::io;
 use trees::fault::Fault;
 use words::fault::Cause;
 
-// The same as in the tests of `checks`, which have the lines beside them.
+// The same as in the tests of `checks`, which have the lines beside them: a table for both would have to lie in a crate of
+// the product.
 const TREES: [Fault; 12] = [
     Fault::Path(PathFault::TooLong),
     Fault::Path(PathFault::BadName(7)),

@@ -27,7 +27,7 @@ fn run_line(rt: &HostRuntime, base: &mut Vec<u8>, line: &str) -> io::Result<()> 
     let (first, second) = (first.as_slice(), second.as_slice());
     let text = [base.as_slice(), first].concat(rt.alloc())?;
     let text = text.as_slice();
-    // The words of the file.
+    // The words stand in the file, so one `match` on them is needed.
     match kind {
         "base" => {
             *base = first.to_vec(rt.alloc())?;

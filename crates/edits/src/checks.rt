@@ -98,7 +98,8 @@ fn check_room(room: usize, need: usize) -> Result<(), Fault>
     Ok(())
 }
 
-// The checks of an edit at a good path, in their order: its values, the root, what is there, the room.
+// The checks of an edit at a good path, in their order: its values, the root, what is there, the room. Five parameters, and
+// no struct of them: each of the two callers has them singly.
 pub fn check<S: Store>(
     store: &S,
     path: &Path,

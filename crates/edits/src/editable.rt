@@ -25,7 +25,7 @@ pub trait Editable: Tree {
     fn edit(&mut self, path: &[u8], action: Action) -> Result<(), Fault>
         ensures { OutcomeOf Self.Tree.entries spare needs self.old self.new path.now action result };
 
-    // The four edits by name, for callers; one in place of them is `edit`.
+    // The four edits by name. One form for all is `edit`, which is there; these spare a caller the `Action`.
     // A file, new or in place of one.
     fn put(&mut self, path: &[u8], entry: Entry) -> Result<(), Fault>
         ensures { OutcomeOf Self.Tree.entries spare needs self.old self.new path.now (Put entry) result }

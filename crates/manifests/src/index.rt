@@ -10,7 +10,7 @@ use paths::Path;
 use rows::row::Row;
 use trees::entry::{DirMeta, Entry};
 
-// A row to fill a table with. It is no `Default`: both types are of other crates.
+// A row to fill a table with. It is no `Default`: a blank entry means nothing, and both types are of other crates.
 pub fn blank_row() -> Row<Entry>
     ensures { row_of result ≡ ([], Dir (record { mode = 0 })) }
 {

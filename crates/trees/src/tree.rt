@@ -7,7 +7,7 @@ use crate::entry::Entry;
 use crate::fault::Fault;
 
 // Not given to each `Store` at once: that would overlap the impl for `&T` below, and a `Store` asked of each tree
-// would ask more of those who have none. A macro may not write an impl.
+// would ask more of those who have none. The gate refuses an impl that a macro writes.
 pub trait Tree {
     ghost entries: { Self → Entries };
 

@@ -25,8 +25,8 @@ use trees::store::Store;
 use trees::tree::Tree;
 
 impl<T: Tree> Session<T> {
-    // Writes a mark, after the directories above it that have none. This and the next say each that the tree below
-    // stays: over the layer alone they could not look at it.
+    // Writes a mark, after the directories above it that have none. This and the other four that change a session
+    // say each that the tree below stays: over the layer alone they could not look at it.
     fn write(&mut self, path: &Path, mark: Mark)
         requires dirs { ProperDirs (seen_rows T.Tree.entries self.old) (names path.now) }
         requires room { length (marks_in self.old) + lacks (marks_in self.old) (names path.now) ≤ 192 }
