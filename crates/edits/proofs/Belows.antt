@@ -1,13 +1,11 @@
 -- What lies below a path that has no child: nothing. Assumes nothing.
-use Rattle.std.proofs.Common.{◌≡◌, ℕ, ◌≤◌, Bool, true, false, cond, not, leb, List, [], ◌∷◌, ◌++◌, length, is_some, Some, None, Option, sym, refl, ap, ◌∙◌, subst}
-use Rattle.std.proofs.lemmas.Bool.{true≢false, both_ways, and_parts, and_from, not-true, not_from_false, le-leb, false_from_ne_true}
+use Rattle.std.proofs.Common.{◌≡◌, ℕ, Bool, true, false, cond, not, leb, List, [], ◌∷◌, ◌++◌, length, is_some, Some, None, Option, sym, refl, ap, ◌∙◌}
+use Rattle.std.proofs.lemmas.Bool.{true≢false, both_ways, and_parts, and_from, not-true, false_from_ne_true}
 use Rattle.std.specs.Option.{option_map}
 use Rattle.std.specs.Ordering.{is_lt}
-use Rattle.paths.specs.declared.Path.{Path}
-use Rattle.paths.specs.Names.{split, join, fault_in, good}
+use Rattle.paths.specs.Names.{join, fault_in}
 use Rattle.paths.specs.Order.{by_bytes}
-use Rattle.paths.specs.Paths.{names, text}
-use Rattle.paths.proofs.Joins.{good_parts, join_split, plain-from-fault, not_empty}
+use Rattle.paths.proofs.Joins.{plain-from-fault, not_empty}
 use Rattle.rows.specs.Maps.{Names, under, first, at, has, ascending, is_child, without}
 use Rattle.rows.specs.Builds.{same, set_at}
 use Rattle.rows.proofs.Orders.{some_name}
@@ -22,15 +20,6 @@ use Rattle.trees.proofs.Closed.{is-fine, closed-rooted}
 use Rattle.edits.specs.Edits.{has_child}
 
 -- ---- good paths
-
-pub good-fine : (s : List ℕ) → good s ≡ true → fine (split s) ≡ true
-good-fine s h =
-    let g = good_parts s h in
-    let short : length (join (split s)) ≤ 120 = subst (λ l. length l ≤ 120) (sym (join_split s)) g.0 in
-    and_from (not (is_some (fault_in 0 (split s)))) (leb (length (join (split s))) 120) (not_from_false (is_some (fault_in 0 (split s))) g.1) (le-leb (length (join (split s))) 120 short)
-
-pub path_fine : (x : Path) → fine (names x) ≡ true
-path_fine x = good-fine (text x) x.sound
 
 -- the last name of a good path is above the empty one
 child-named : (p : Names) (n : List ℕ) → fine (p ++ n ∷ []) ≡ true → is_lt (by_bytes [] n) ≡ true

@@ -1,3 +1,2 @@
-pub mod Written
 pub mod Steps
 pub mod Spending

@@ -14,11 +14,12 @@ use Rattle.paths.specs.Paths.{names}
 use Rattle.trees.specs.declared.fault.Fault.{Fault}
 use Rattle.trees.specs.declared.fault.Fault.TheVariants.{Path as PathFaulty}
 use Rattle.edits.specs.Edits.{refused_at, answered, new_entry, edited, removes, Outcome}
-use Rattle.edits.proofs.Belows.{set_none, path_fine}
+use Rattle.trees.proofs.Fine.{path_fine}
+use Rattle.edits.proofs.Belows.{set_none}
 use Rattle.edits.proofs.Outcomes.{answered-some, bad_refusal, good-refusal, refused-outcome, granted-outcome}
 use Rattle.edits.proofs.Edited.{edited-is, edited-there, emptied}
 use Rattle.flat.specs.Rooms.{is_tree, room_of, need_at}
-use Rattle.flat.proofs.Written.{length_set, length-only}
+use Rattle.rows.proofs.Sets.{length_set, length-only}
 
 module _ (rs : List Row) (p : Names) (t : is_tree rs ≡ true) (f : fine p ≡ true) (a : Action) (h : refused_at rs (room_of rs) (need_at rs p) p a ≡ None) where
   parts : (ascending rs ≡ true) × (closed rs rs ≡ true)

@@ -1,9 +1,7 @@
 -- What the changes of a flat tree do to its rows. Assumes nothing.
-use Rattle.std.proofs.Common.{◌≡◌, ◌≤◌, true, false, cond, List, [], ◌∷◌, Some, None, sym, subst}
-use Rattle.rows.specs.Maps.{Names, at, ascending, has, replaced, without, rooted}
+use Rattle.std.proofs.Common.{◌≡◌, ◌≤◌, Bool, true, false, cond, ◌||◌, ltb, List, length, None, refl, sym, subst, arith}
+use Rattle.rows.specs.Maps.{Names, at, ascending, has, without, rooted}
 use Rattle.rows.specs.Builds.{set_at}
-use Rattle.rows.specs.Tables.{spliced, splices}
-use Rattle.trees.specs.declared.entry.Entry.{Entry}
 use Rattle.trees.specs.Entries.{Row, closed}
 use Rattle.trees.proofs.Closed.{tree_parts, closed-rooted}
 use Rattle.edits.specs.declared.action.Action.{Action}
@@ -11,10 +9,10 @@ use Rattle.edits.specs.Edits.{has_child, refused_at, new_entry}
 use Rattle.paths.specs.declared.Path.{Path}
 use Rattle.paths.specs.Paths.{names}
 use Rattle.edits.proofs.Granted.{granted-room}
-use Rattle.edits.proofs.Belows.{set_none, path_fine}
+use Rattle.trees.proofs.Fine.{path_fine}
+use Rattle.edits.proofs.Belows.{set_none}
 use Rattle.edits.proofs.Edited.{edited-closed, edited-is, emptied}
 use Rattle.flat.specs.Rooms.{is_tree, room_of, need_at}
-use Rattle.flat.proofs.Written.{set_replaced, replaced_absent, set_spliced, one_splices}
 
 module _ (rs : List Row) (t : is_tree rs ≡ true) where
   parts : (ascending rs ≡ true) × (closed rs rs ≡ true)
@@ -28,22 +26,12 @@ module _ (rs : List Row) (t : is_tree rs ≡ true) where
     pub taken : has_child rs p ≡ false → without p rs ≡ set_at rs p None
     taken none = sym (set_none rs parts.1 p none parts.0)
 
-    pub over : (v : Entry) → has rs p ≡ true → replaced rs p v ≡ set_at rs p (Some v)
-    over v h = sym (set_replaced rs p v parts.0 h)
-
-    pub absent : (v : Entry) → has rs p ≡ false → replaced rs p v ≡ rs
-    absent v h = replaced_absent rs p v h
-
-    pub fits : (v : Entry) → has rs p ≡ false → need_at rs p ≤ room_of rs → splices 256 ((p, v) ∷ []) rs ≡ true
-    fits v h l =
-        let room : 1 ≤ room_of rs = subst (λ b. cond b 0 1 ≤ room_of rs) h l in
-        one_splices p v rs parts.0 h 256 room
-
-    pub beside : (v : Entry) → has rs p ≡ false → spliced ((p, v) ∷ []) rs ≡ set_at rs p (Some v)
-    beside v h = sym (set_spliced p v rs parts.0 h)
-
--- what `set` needs
-pub ruleset setting = (over, absent, fits, beside)
+-- what is needed is there: a row at the path, or room for one
+pub finds_room : (rs : List Row) (p : Names) → need_at rs p ≤ room_of rs → (has rs p || ltb (length rs) 256) ≡ true
+finds_room rs p l = go (has rs p) l where
+  go : (t : Bool) → cond t 0 1 ≤ room_of rs → (t || ltb (length rs) 256) ≡ true
+  go true l = refl
+  go false l = grind arith
 
 module _ (rs : List Row) (x : Path) (a : Action) (t : is_tree rs ≡ true) (h : refused_at rs (room_of rs) (need_at rs (names x)) (names x) a ≡ None) where
   pub whole : is_tree (set_at rs (names x) (new_entry a (at rs (names x)))) ≡ true

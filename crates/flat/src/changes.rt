@@ -12,7 +12,6 @@ use edits::action::Action;
 use edits::checks::{check, entry_after};
 use edits::editable::Editable;
 use paths::Path;
-use rows::row::Row;
 use trees::entry::Entry;
 use trees::fault::Fault;
 use trees::store::Store;
@@ -26,18 +25,13 @@ impl Flat {
     }
 
     // Puts an entry at a path, in place of what is there.
-    #[tactic(auto, using(crate::proofs::Steps::setting))]
+    #[tactic(auto, using(crate::proofs::Steps::finds_room))]
     fn set(&mut self, path: &Path, entry: Entry)
         requires grows { is_tree (set_at (listed self.old.rows) (names path.now) (Some entry)) ≡ true }
         requires fits { need_at (listed self.old.rows) (names path.now) ≤ room_of (listed self.old.rows) }
         ensures { listed self.new.rows ≡ set_at (listed self.old.rows) (names path.now) (Some entry) }
     {
-        if !self.rows.replace(path, entry) {
-            self.rows.insert(&[Row {
-                path: *path,
-                value: entry,
-            }]);
-        }
+        self.rows.set(path, entry);
     }
 
     // Takes out the entry at a path with nothing below it.

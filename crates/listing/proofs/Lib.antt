@@ -4,4 +4,3 @@ pub mod Steps
 pub mod Texts
 pub mod Rest
 pub mod Roots
-pub mod Written

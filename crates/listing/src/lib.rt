@@ -30,7 +30,7 @@ fn measure<T: Tree>(tree: &T, room: usize) -> Option<usize>
 }
 
 // Writes the listing, for which there is room.
-#[tactic(auto, using(crate::proofs::Written::room_for))]
+#[tactic(auto, using(trees::proofs::Written::room_for))]
 fn write<T: Tree>(tree: &T, buffer: &mut [u8])
     requires { length (listing (T.Tree.entries tree.now).rows) ≤ length buffer.old }
     ensures { buffer.new ≡ listing (T.Tree.entries tree.now).rows ++ drop (length (listing (T.Tree.entries tree.now).rows)) buffer.old }

@@ -1,21 +1,20 @@
 -- The rows that a text gives make a tree. Assumes nothing.
-use Rattle.std.proofs.Common.{◌≡◌, ℕ, ◌+◌, ◌-◌, ◌*◌, ◌^◌, ◌<◌, ◌≤◌, min, Bool, true, false, cond, not, ◌&&◌, ◌||◌, eqb, ltb, leb, List, [], ◌∷◌, ◌++◌, length, drop, is_some, Some, None, Ok, Err, Option, Result, sym, refl, ap, ◌∙◌, subst, inl, inr, ⊎_elim, mul_assoc, mul-one, arith}
+use Rattle.std.proofs.Common.{◌≡◌, ℕ, ◌+◌, ◌-◌, ◌*◌, ◌^◌, ◌<◌, ◌≤◌, min, Bool, true, false, cond, not, ◌&&◌, ◌||◌, eqb, ltb, leb, List, [], ◌∷◌, ◌++◌, length, drop, Some, None, Ok, Err, Option, Result, sym, refl, ap, ◌∙◌, subst, mul_assoc, mul-one, arith}
 use native.Mathlib.Nat.{pow-zero, pow-succ'}
-use Rattle.std.proofs.lemmas.Bool.{and_parts, and_from, not_from_false, ltb-true, leb-true, eqb-true, le-leb, lt-ltb}
+use Rattle.std.proofs.lemmas.Bool.{and_from, ltb-true, leb-true, eqb-true, le-leb, lt-ltb}
 use Rattle.paths.specs.declared.PathFault.{PathFault}
-use Rattle.paths.specs.Names.{split, join, fault_in, fault, judge, judged, same, parent, begins}
+use Rattle.paths.specs.Names.{judge, same, parent, begins}
 use Rattle.paths.specs.Pieces.{front, later, pieces}
-use Rattle.paths.proofs.Joins.{join_split, good_parts}
-use Rattle.rows.specs.Maps.{Names, before, at, ascending}
-use Rattle.rows.proofs.Firsts.{In, holds_at, at-holds}
+use Rattle.rows.specs.Maps.{Names, at, ascending, rises}
 use Rattle.trees.specs.declared.entry.Entry.{Entry}
 use Rattle.trees.specs.declared.entry.Entry.TheVariants.{File, Dir}
 use Rattle.trees.specs.Entries.{Row, is_dir, in_range, fine, closed}
-use Rattle.trees.proofs.Closed.{closed_head}
+use Rattle.trees.proofs.Closed.{tree_parts, closed-grown}
+use Rattle.trees.proofs.Grown.{Sound, grown_more}
 use Rattle.words.specs.declared.fault.Cause.{Cause}
 use Rattle.words.specs.declared.fault.Cause.TheVariants.{Header, Word, Value, Order, Parent, TooMany}
 use Rattle.manifests.specs.declared.fault.ManifestFault.{ManifestFault}
-use Rattle.words.specs.Steps.{and_then, and_then_some}
+use Rattle.paths.specs.Steps.{and_then, and_then_some}
 use Rattle.words.specs.Escapes.{unescaped}
 use Rattle.words.specs.Words.{undotted, held, judged_word, path_of}
 use Rattle.mtree.specs.Numbers.{below, digit_value, numeral_from, numeral, mode_of, at_most, size_of, content_of}
@@ -23,43 +22,13 @@ use Rattle.mtree.specs.Lexed.{tail}
 use Rattle.mtree.specs.Keywords.{type_name, mode_name, size_name, content_name, dir_word, file_word, expected, valued, number, no_more, dir_of, file_of, typed, entry_of}
 use Rattle.manifests.specs.Lasts.{Built}
 use Rattle.manifests.specs.Laws.{IndexMakesTree}
-use Rattle.manifests.specs.Manifests.{rises, under_dir, placed, row_of_line, fault_at, positioned, rows_from, header, indexed}
-use Rattle.manifests.proofs.Placing.{some-dir}
-use Rattle.manifests.proofs.Placing.{in_right}
-
--- ---- steps that did not refuse
-
-pub then_ok : {A B E : Type 0} (r : Result A E) (go : A → Result B E) (b : B) → and_then r go ≡ Ok b → (a : A) × (r ≡ Ok a) × (go a ≡ Ok b)
-then_ok (Ok a) go b h = (a, refl, h)
-then_ok (Err e) go b h = cc
-
-then_some : {A B : Type 0} (o : Option A) (go : A → Option B) (b : B) → and_then_some o go ≡ Some b → (a : A) × (o ≡ Some a) × (go a ≡ Some b)
-then_some None go b h = cc
-then_some (Some a) go b h = (a, refl, h)
-
-pub if_ok : {A E : Type 0} (t : Bool) (r : Result A E) (e : E) (a : A) → cond t r (Err e) ≡ Ok a → (t ≡ true) × (r ≡ Ok a)
-if_ok true r e a h = (refl, h)
-if_ok false r e a h = cc
-
-if_some : {A : Type 0} (t : Bool) (o : Option A) (a : A) → cond t o None ≡ Some a → (t ≡ true) × (o ≡ Some a)
-if_some true o a h = (refl, h)
-if_some false o a h = cc
+use Rattle.manifests.specs.Manifests.{under_dir, placed, row_of_line, fault_at, positioned, rows_from, header, indexed}
+use Rattle.paths.proofs.Granted.{then_ok, then_some, if_ok, if_some}
+use Rattle.trees.proofs.Fine.{judged-fine}
+use Rattle.rows.proofs.Risen.{ascends_more}
+use Rattle.rows.proofs.Earlier.{passed-later, itself-there}
 
 -- ---- a path that is read is good
-
-fine-split : (s : List ℕ) → fault s ≡ None → fine (split s) ≡ true
-fine-split s f =
-    let g = good_parts s (ap (λ o. not (is_some o)) f) in
-    let short : length (join (split s)) ≤ 120 = subst (λ l. length l ≤ 120) (sym (join_split s)) g.0 in
-    and_from (not (is_some (fault_in 0 (split s)))) (leb (length (join (split s))) 120) (not_from_false (is_some (fault_in 0 (split s))) g.1) (le-leb (length (join (split s))) 120 short)
-
-judged-fine : (s : List ℕ) (p : Names) → judge s ≡ Ok p → fine p ≡ true
-judged-fine s p h = go (fault s) refl h where
-  go : (o : Option PathFault) → fault s ≡ o → judged (split s) o ≡ Ok p → fine p ≡ true
-  go None f h =
-      let is : split s ≡ p = cc in
-      subst (λ z. fine z ≡ true) is (fine-split s f)
-  go (Some e) f h = cc
 
 held-ok : (r : Result Names PathFault) (p : Names) → held r ≡ Ok p → r ≡ Ok p
 held-ok (Ok q) p h =
@@ -176,46 +145,22 @@ entry_ranged ks e h =
 
 -- ---- one row more
 
-ascends_more : (rows : List Row) (r : Row) → ascending rows ≡ true → rises rows r.0 ≡ true → ascending (rows ++ r ∷ []) ≡ true
-ascends_more [] r a h = refl
-ascends_more (x ∷ []) r a h = and_from (before x.0 r.0) true h refl
-ascends_more (x ∷ y ∷ rs) r a h =
-    let p = and_parts (before x.0 y.0) (ascending (y ∷ rs)) a in
-    and_from (before x.0 y.0) (ascending (y ∷ (rs ++ r ∷ []))) p.0 (ascends_more (y ∷ rs) r p.1 h)
-
-in_left : (rows more : List Row) (x : Row) → In rows x → In (rows ++ more) x
-in_left [] more x i = absurd i
-in_left (y ∷ rows) more x i = ⊎_elim (λ s. inl s) (λ j. inr (in_left rows more x j)) i
-
-closed_more : (all whole : List Row) → ((q : Names) → is_dir (at all q) ≡ true → is_dir (at whole q) ≡ true) → (rs more : List Row) → closed all rs ≡ true → closed whole more ≡ true → closed whole (rs ++ more) ≡ true
-closed_more all whole kept [] more c g = g
-closed_more all whole kept (x ∷ rs) more c g =
-    let p = closed_head all x rs c in
-    and_from ((fine x.0 && in_range x.1) && is_dir (at whole (parent x.0))) (closed whole (rs ++ more)) (and_from (fine x.0 && in_range x.1) (is_dir (at whole (parent x.0))) (and_from (fine x.0) (in_range x.1) p.0.good p.0.ranged) (kept (parent x.0) p.0.under)) (closed_more all whole kept rs more p.1 g)
-
 module _ (rows : List Row) (p : Names) (e : Entry) (b : Built rows) (h : rises rows p ≡ true) where
   abbrev whole : List Row
   whole = rows ++ (p, e) ∷ []
 
-  rise : ascending whole ≡ true
-  rise = ascends_more rows (p, e) (and_parts (ascending rows) (closed rows rows) b).0 h
-
-  kept : (q : Names) → is_dir (at rows q) ≡ true → is_dir (at whole q) ≡ true
-  kept q d =
-      let s = some-dir (at rows q) d in
-      ap is_dir (holds_at whole rise q s.0 (in_left rows ((p, e) ∷ []) (q, s.0) (at-holds rows q s.0 s.1))) ∙ sym (ap is_dir s.1) ∙ d
-
-  new-there : at whole p ≡ Some e
-  new-there = holds_at whole rise p e (in_right rows ((p, e) ∷ []) (p, e) (inl refl))
+  up : ascending whole ≡ true
+  up = ascends_more rows (p, e) (tree_parts rows b).0 h
 
   parent_dir : (q : Names) → p ≡ q → under_dir rows q e ≡ true → is_dir (at whole (parent q)) ≡ true
-  parent_dir [] is s = ap is_dir (sym (ap (at whole) is) ∙ new-there) ∙ s
-  parent_dir (n ∷ q) is s = kept (parent (n ∷ q)) s
+  parent_dir [] is s = ap is_dir (sym (ap (at whole) is) ∙ itself-there rows (p, e) [] up) ∙ s
+  parent_dir (n ∷ q) is s = passed-later rows (p, e) [] up is_dir refl (parent (n ∷ q)) s
 
   pushed : under_dir rows p e ≡ true → fine p ≡ true → in_range e ≡ true → Built whole
   pushed s f g =
-      let last = and_from ((fine p && in_range e) && is_dir (at whole (parent p))) true (and_from (fine p && in_range e) (is_dir (at whole (parent p))) (and_from (fine p) (in_range e) f g) (parent_dir p refl s)) refl in
-      and_from (ascending whole) (closed whole whole) rise (closed_more rows whole kept rows ((p, e) ∷ []) (and_parts (ascending rows) (closed rows rows) b).1 last)
+      let before = sym (closed-grown rows rows) ∙ (tree_parts rows b).1 in
+      let last : Sound in_range is_dir whole (p, e) = record { good = f; ranged = g; under = parent_dir p refl s } in
+      and_from (ascending whole) (closed whole whole) up (closed-grown whole whole ∙ grown_more in_range is_dir refl rows (p, e) up before last)
 
 placed_parts : (limit : ℕ) (rows : List Row) (p : Names) (e : Entry) (r : Row) → placed limit rows p e ≡ Ok r → (rises rows p ≡ true) × (under_dir rows p e ≡ true) × ((p, e) ≡ r)
 placed_parts limit rows p e r h =

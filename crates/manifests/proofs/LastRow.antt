@@ -12,7 +12,7 @@ use Rattle.paths.specs.Names.{parent, last_name, Under}
 use Rattle.paths.specs.Order.{by_bytes, by_names}
 use Rattle.paths.proofs.Laws.{itself, bytes-exact, between}
 use Rattle.rows.specs.declared.row.Row.{Row as Stored}
-use Rattle.rows.specs.Maps.{Names, before, at, has, ascending}
+use Rattle.rows.specs.Maps.{Names, before, at, has, ascending, rises}
 use Rattle.rows.specs.Rows.{row_of, rows_of}
 use Rattle.rows.proofs.Orders.{is-equal, same-is, is_same, before-le, parent-child, as_child}
 use Rattle.rows.proofs.Firsts.{In, head_least, tail-ascends, holds_at, at-holds, child-there}
@@ -21,7 +21,7 @@ use Rattle.trees.specs.Entries.{Row, is_dir, closed}
 use Rattle.trees.proofs.Closed.{closed-rooted, up-dir}
 use Rattle.manifests.proofs.Placing.{some-dir}
 use Rattle.manifests.specs.Lasts.{Built, last_row, rises_last, within, by_last}
-use Rattle.manifests.specs.Manifests.{rises, under_dir}
+use Rattle.manifests.specs.Manifests.{under_dir}
 use Rattle.std.specs.Cmp.Lexicographic.{lists_total}
 
 last_get : (rows : List Row) → last_row rows ≡ slice_get rows (length rows - 1)

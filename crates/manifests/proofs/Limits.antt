@@ -4,17 +4,18 @@ use Rattle.std.proofs.lemmas.List.{length-append}
 use Rattle.std.proofs.lemmas.Bool.{cond-true, lt-ltb}
 use Rattle.paths.specs.Names.{begins}
 use Rattle.paths.specs.Pieces.{front, later, pieces}
-use Rattle.rows.specs.Maps.{Names}
+use Rattle.rows.specs.Maps.{Names, rises}
 use Rattle.trees.specs.declared.entry.Entry.{Entry}
 use Rattle.trees.specs.Entries.{Row}
 use Rattle.words.specs.declared.fault.Cause.TheVariants.{Header, Word, Order, Parent, TooMany}
 use Rattle.manifests.specs.declared.fault.ManifestFault.{ManifestFault}
-use Rattle.words.specs.Steps.{and_then}
+use Rattle.paths.specs.Steps.{and_then}
 use Rattle.words.specs.Words.{path_of}
 use Rattle.mtree.specs.Keywords.{entry_of}
-use Rattle.manifests.specs.Manifests.{rises, under_dir, placed, row_of_line, fault_at, positioned, rows_from, header}
+use Rattle.manifests.specs.Manifests.{under_dir, placed, row_of_line, fault_at, positioned, rows_from, header}
 use Rattle.manifests.specs.Laws.{IndexThenLoad}
-use Rattle.manifests.proofs.BuiltRows.{then_ok, if_ok, positioned-ok}
+use Rattle.paths.proofs.Granted.{then_ok, if_ok}
+use Rattle.manifests.proofs.BuiltRows.{positioned-ok}
 use Rattle.manifests.proofs.ReadLines.{row_room}
 
 module _ (limit other : ℕ) where

@@ -9,11 +9,12 @@ use Rattle.trees.specs.declared.entry.Entry.TheVariants.{File, Dir}
 use Rattle.trees.specs.Entries.{Row, in_range, fine}
 use Rattle.words.specs.Printable.{printable}
 use Rattle.listing.specs.Lines.{escape, escaped, dotted, digits, type_dir, type_file, size_is, content_is, keywords}
-use Rattle.words.specs.Steps.{and_then}
+use Rattle.paths.specs.Steps.{and_then}
 use Rattle.words.specs.Words.{path_of}
 use Rattle.mtree.specs.Keywords.{type_name, mode_name, size_name, content_name, dir_word, file_word, entry_of}
 use Rattle.manifests.specs.Manifests.{placed, row_of_line}
-use Rattle.manifests.proofs.Dotted.{all_append, path_back}
+use Rattle.trees.proofs.Fine.{all_append}
+use Rattle.manifests.proofs.Dotted.{path_back}
 use Rattle.manifests.proofs.Numerals.{digits-seen}
 use Rattle.manifests.proofs.Sizes.{decimal-seen, size_small}
 use Rattle.manifests.proofs.Splits.{Above, above_from, above-less, front-whole, later-whole, front_part, later_part}

@@ -6,9 +6,9 @@ use Rattle.std.proofs.lemmas.List.{length_push}
 use Rattle.std.proofs.lemmas.Bool.{true≢false, and_from, and_right, cond-true, cond-false, le-leb, lt-leb, lt-ltb, ltb-true, ltb-false}
 use Rattle.std.specs.List.{AllByRecursion as All}
 use Rattle.listing.specs.Lines.{digit, digits}
-use Rattle.words.specs.Steps.{and_then_some}
+use Rattle.paths.specs.Steps.{and_then_some}
 use Rattle.mtree.specs.Numbers.{below, digit_value, numeral_from, numeral}
-use Rattle.manifests.proofs.Dotted.{all_append}
+use Rattle.trees.proofs.Fine.{all_append}
 
 -- ---- one digit
 

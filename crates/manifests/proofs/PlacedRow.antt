@@ -3,14 +3,14 @@ use Rattle.std.proofs.Common.{◌≡◌, ℕ, ◌<◌, Bool, true, false, cond, 
 use Rattle.std.specs.Option.{option_map}
 use Rattle.paths.specs.Names.{parent}
 use Rattle.rows.specs.declared.row.Row.{Row as Stored}
-use Rattle.rows.specs.Maps.{Names}
+use Rattle.rows.specs.Maps.{Names, rises}
 use Rattle.rows.specs.Rows.{row_of}
 use Rattle.trees.specs.declared.entry.Entry.{Entry}
 use Rattle.trees.specs.Entries.{Row}
 use Rattle.words.specs.declared.fault.Cause.{Cause}
 use Rattle.words.specs.declared.fault.Cause.TheVariants.{Order, Parent, TooMany}
 use Rattle.manifests.specs.Lasts.{Built, last_row, rises_last, parent_dir, by_last}
-use Rattle.manifests.specs.Manifests.{rises, under_dir, placed}
+use Rattle.manifests.specs.Manifests.{under_dir, placed}
 use Rattle.manifests.proofs.LastRow.{rises_by, under_dir_by}
 
 -- where the last row, if there is one, has been asked for the parent of a path

@@ -7,7 +7,7 @@ use Rattle.rows.specs.Maps.{at, ascending}
 use Rattle.trees.specs.Entries.{Row, is_dir, in_range, fine, closed}
 use Rattle.listing.specs.Lines.{dotted, keywords, lines, listing}
 use Rattle.words.specs.declared.fault.Cause.TheVariants.{Header}
-use Rattle.words.specs.Steps.{and_then}
+use Rattle.paths.specs.Steps.{and_then}
 use Rattle.manifests.specs.Manifests.{row_of_line, fault_at, positioned, rows_from, header}
 use Rattle.manifests.specs.Laws.{ListingReadsBack}
 use Rattle.manifests.proofs.Splits.{pieces_part}

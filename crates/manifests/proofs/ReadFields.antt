@@ -4,19 +4,16 @@ use Rattle.std.proofs.lemmas.List.{length-append}
 use Rattle.std.proofs.lemmas.Bool.{and_from, cond-true, eq-eqb, lt-ltb}
 use Rattle.paths.specs.Names.{same}
 use Rattle.paths.specs.Pieces.{front}
+use Rattle.paths.proofs.Tests.{same-itself}
 use Rattle.trees.specs.declared.entry.Entry.TheVariants.{File, Dir}
 use Rattle.listing.specs.Lines.{digits}
 use Rattle.words.specs.declared.fault.Cause.TheVariants.{Keyword}
-use Rattle.words.specs.Steps.{and_then}
+use Rattle.paths.specs.Steps.{and_then}
 use Rattle.mtree.specs.Numbers.{numeral, mode_of, size_of, content_of}
 use Rattle.mtree.specs.Keywords.{type_name, mode_name, size_name, content_name, dir_word, file_word, expected, valued, number, no_more, typed, entry_of}
 use Rattle.manifests.proofs.Numerals.{digits_back, length_digits}
 use Rattle.manifests.proofs.Splits.{Above, above_from, front_part}
 use Rattle.manifests.proofs.Sizes.{size_back}
-
-same-itself : (s : List ℕ) → same s s ≡ true
-same-itself [] = refl
-same-itself (b ∷ bs) = and_from (eqb b b) (same bs bs) (eq-eqb b b refl) (same-itself bs)
 
 drop_past : (s v : List ℕ) (b : ℕ) → drop (suc (length s)) (s ++ b ∷ v) ≡ v
 drop_past [] v b = refl

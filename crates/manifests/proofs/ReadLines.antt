@@ -10,17 +10,17 @@ use Rattle.std.proofs.lemmas.Bool.{cond-true, cond-false, eq-eqb, ne_eqb, eqb-tr
 use Rattle.paths.specs.Names.{begins}
 use Rattle.paths.specs.Pieces.{front, later, pieces}
 use Rattle.paths.proofs.Fronts.{later-none, later-some, cut-front}
-use Rattle.rows.specs.Maps.{Names}
+use Rattle.rows.specs.Maps.{Names, rises}
 use Rattle.trees.specs.declared.entry.Entry.{Entry}
 use Rattle.trees.specs.Entries.{Row}
 use Rattle.words.specs.declared.fault.Cause.{Cause}
 use Rattle.words.specs.declared.fault.Cause.TheVariants.{Word, Order, Parent, TooMany}
 use Rattle.manifests.specs.declared.fault.ManifestFault.{ManifestFault}
-use Rattle.words.specs.Steps.{and_then}
+use Rattle.paths.specs.Steps.{and_then}
 use Rattle.words.specs.Words.{path_of}
 use Rattle.mtree.specs.Keywords.{entry_of}
 use Rattle.mtree.specs.Lines.{line_of}
-use Rattle.manifests.specs.Manifests.{rises, under_dir, placed, row_of_line, fault_at, positioned, rows_from, header, rows_in}
+use Rattle.manifests.specs.Manifests.{under_dir, placed, row_of_line, fault_at, positioned, rows_from, header, rows_in}
 use Rattle.manifests.specs.Readers.{ended, row_of_ended}
 
 module _ (limit at : ℕ) (rows : List Row) (s : List ℕ) where

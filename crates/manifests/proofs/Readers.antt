@@ -8,7 +8,7 @@ use Rattle.trees.specs.declared.entry.Entry.{Entry}
 use Rattle.trees.specs.Entries.{Row}
 use Rattle.words.specs.declared.fault.Cause.{Cause}
 use Rattle.words.specs.declared.fault.Cause.TheVariants.{Order, Parent, TooMany}
-use Rattle.words.specs.Steps.{and_then}
+use Rattle.paths.specs.Steps.{and_then}
 use Rattle.mtree.specs.Lines.{line_of}
 use Rattle.manifests.specs.declared.reader.Reader.{Reader}
 use Rattle.manifests.specs.Lasts.{Built, last_row, rises_last, by_last}

@@ -3,9 +3,9 @@ use Rattle.std.proofs.Common.{◌≡◌, ℕ, ◌+◌, ◌/◌, ◌%◌, ◌^◌
 use Rattle.std.proofs.lemmas.Fmt.{decimal_digit, decimal_by_steps, decimal_nonempty, length-decimal-le, first_decimal}
 use Rattle.std.proofs.lemmas.Bool.{and_from, or_left, or_right, not_from_false, cond-true, le-leb, eq-eqb, ne_eqb, cases_eq}
 use Rattle.paths.specs.Names.{begins}
-use Rattle.words.specs.Steps.{and_then_some}
+use Rattle.paths.specs.Steps.{and_then_some}
 use Rattle.mtree.specs.Numbers.{numeral_from, numeral, at_most, size_of}
-use Rattle.manifests.proofs.Dotted.{all_append}
+use Rattle.trees.proofs.Fine.{all_append}
 use Rattle.manifests.proofs.Numerals.{low_digit, numeral_push}
 use Rattle.manifests.proofs.Splits.{Above}
 

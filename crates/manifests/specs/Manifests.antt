@@ -1,22 +1,16 @@
 -- What the text of a manifest says. Assumes nothing.
-use Rattle.std.specs.Prelude.{ℕ, ◌+◌, min, Bool, true, cond, ◌&&◌, List, [], ◌∷◌, ◌++◌, length, drop, Some, Ok, Err, Result, ◌==◌, nat_le, nat_lt}
+use Rattle.std.specs.Prelude.{ℕ, ◌+◌, min, Bool, cond, ◌&&◌, List, [], ◌∷◌, ◌++◌, length, drop, Some, Ok, Err, Result, ◌==◌, nat_le, nat_lt}
 use Rattle.paths.specs.Names.{parent, begins}
 use Rattle.paths.specs.Pieces.{front, later, pieces}
-use Rattle.rows.specs.Maps.{Names, at, before}
+use Rattle.rows.specs.Maps.{Names, at, rises}
 use Rattle.trees.specs.declared.entry.Entry.{Entry}
 use Rattle.trees.specs.Entries.{Row, is_dir}
 use Rattle.words.specs.declared.fault.Cause.{Cause}
 use Rattle.words.specs.declared.fault.Cause.TheVariants.{Header, Word, Order, Parent, TooMany}
 use Rattle.manifests.specs.declared.fault.ManifestFault.{ManifestFault}
-use Rattle.words.specs.Steps.{and_then}
+use Rattle.paths.specs.Steps.{and_then}
 use Rattle.words.specs.Words.{path_of}
 use Rattle.mtree.specs.Keywords.{entry_of}
-
--- p comes after every row: rows rise, so it is enough that it comes after the last
-abbrev pub rises : List Row → Names → Bool
-rises [] p = true
-rises (r ∷ []) p = before r.0 p
-rises (r ∷ s ∷ rs) p = rises (s ∷ rs) p
 
 -- the root is a directory, and any other path stands under an earlier directory
 abbrev pub under_dir : List Row → Names → Entry → Bool

@@ -5,7 +5,7 @@ use Rattle.rows.specs.Rows.{rows_of}
 use Rattle.trees.specs.Entries.{Row}
 use Rattle.words.specs.declared.fault.Cause.{Cause}
 use Rattle.words.specs.declared.fault.Cause.TheVariants.{Word}
-use Rattle.words.specs.Steps.{and_then}
+use Rattle.paths.specs.Steps.{and_then}
 use Rattle.manifests.specs.declared.reader.Reader.{Reader}
 use Rattle.manifests.specs.Manifests.{row_of_line}
 

@@ -231,7 +231,7 @@ no_zero_append : (a b : List ℕ) → NoZero a → NoZero b → NoZero (a ++ b)
 no_zero_append [] b p q = q
 no_zero_append (x ∷ a) b p q = (p.0, no_zero_append a b p.1 q)
 
-no_zero_plain : (n : List ℕ) → plain n ≡ true → NoZero n
+pub no_zero_plain : (n : List ℕ) → plain n ≡ true → NoZero n
 no_zero_plain [] h = tt
 no_zero_plain (b ∷ bs) h =
     let p = and_parts (not (eqb b 0) && leb b 255) (not (eqb b 47) && plain bs) h in

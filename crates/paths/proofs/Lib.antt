@@ -3,3 +3,5 @@ pub mod Joins
 pub mod Laws
 pub mod Steps
 pub mod Same
+pub mod Granted
+pub mod Tests

@@ -102,10 +102,10 @@ pieces_whole (b ∷ bs) h =
     let whole = pieces_whole bs (λ k lt. h (suc k) (omega arith)) in
     (λ j. front_go 47 b bs n j ∷ later_go 47 b bs n j) ∙ head_more b bs whole
 
-last_behind : (ps : List (List ℕ)) (n : List ℕ) → last_name (ps ++ n ∷ []) ≡ n
-last_behind [] n = refl
-last_behind (p ∷ []) n = refl
-last_behind (p ∷ q ∷ ps) n = last_behind (q ∷ ps) n
+pub last_child : (ps : List (List ℕ)) (n : List ℕ) → last_name (ps ++ n ∷ []) ≡ n
+last_child [] n = refl
+last_child (p ∷ []) n = refl
+last_child (p ∷ q ∷ ps) n = last_child (q ∷ ps) n
 
 pub last_none : (s : List ℕ) → ((k : ℕ) → k < length s → get_or s k 0 ≡ 47 → ⊥) → last_name (split s) ≡ s
 last_none s h = last_split s ∙ ap last_name (pieces_whole s h)
@@ -115,7 +115,7 @@ last_at s i lt e h =
     let rest = drop (i + 1) s in
     let cut : s ≡ take i s ++ 47 ∷ rest = sym (take-append-drop i s) ∙ ap (λ l. take i s ++ l) (drop_more s i 0 lt ∙ ap (λ b. b ∷ rest) e) in
     let whole = pieces_whole rest (λ k inside z. h (i + 1 + k) (omega arith) (omega (arith, length-drop (i + 1) s)) (sym (get_or-drop (i + 1) s k 0) ∙ z)) in
-    last_split s ∙ ap (λ l. last_name (pieces 47 l)) cut ∙ ap last_name (pieces-append (take i s) rest ∙ ap (λ ps. pieces 47 (take i s) ++ ps) whole) ∙ last_behind (pieces 47 (take i s)) rest
+    last_split s ∙ ap (λ l. last_name (pieces 47 l)) cut ∙ ap last_name (pieces-append (take i s) rest ∙ ap (λ ps. pieces 47 (take i s) ++ ps) whole) ∙ last_child (pieces 47 (take i s)) rest
 
 -- ---- a text in an array
 

@@ -3,6 +3,7 @@ ghost use Rattle.std.specs.Prelude.{◌≡◌, ◌+◌, ◌<◌, ◌≤◌, true
 ghost use Rattle.paths.specs.Names.{good, parent, prefixes, last_name, Under, Checked};
 ghost use Rattle.paths.specs.Paths.{text, names, Parsed, child_fault, Child};
 
+use crate::parts::last_piece;
 use crate::prefixes::Prefixes;
 use crate::{Path, PathFault, scan};
 
@@ -80,7 +81,7 @@ impl Path {
     pub fn last_name(&self) -> &[u8]
         ensures { result.now ≡ last_name (names self.now) }
     {
-        scan::last_piece(self.as_bytes())
+        last_piece(self.as_bytes())
     }
 
     // Judges `name` as one more name.

@@ -1,6 +1,6 @@
 // The rule of names and paths, and what is told of a path by its bytes.
 ghost use Rattle.std.specs.Prelude.{◌≡◌, ◌≤◌, [], ◌∷◌, length, take};
-ghost use Rattle.paths.specs.Names.{split, join, last_name, plain, reserved, good_name, fault_in, fault, Checked};
+ghost use Rattle.paths.specs.Names.{split, join, plain, reserved, good_name, fault_in, fault, Checked};
 ghost use Rattle.paths.specs.Order.{weight, by_weight, goes_on};
 
 use crate::PathFault;
@@ -107,14 +107,4 @@ pub(crate) fn prefix_end(s: &[u8], k: usize) -> usize
         .filter(|(_, b)| **b == b'/')
         .nth(passed)
         .map_or(s.len(), |(i, _)| i)
-}
-
-// What follows the last `/`, or all of a text with none.
-pub(crate) fn last_piece(s: &[u8]) -> &[u8]
-    ensures { result.now ≡ last_name (split s.now) }
-{
-    match s.iter().rposition(|b| *b == b'/') {
-        Some(i) => &s[i + 1..],
-        None => s,
-    }
 }

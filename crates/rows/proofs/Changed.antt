@@ -1,5 +1,6 @@
 -- What an edit makes of rows: kept by a test, with a value replaced, with rows put among them. Assumes nothing.
-use Rattle.std.proofs.Common.{◌≡◌, ◌+◌, Bool, true, false, cond, not, ◌&&◌, List, [], ◌∷◌, ◌++◌, map, length, take, drop, is_some, Some, None, Decides, Option, sym, refl, ap, ◌∙◌, inl, inr, ⊎_elim, arith}
+use Rattle.rows.proofs.Risen.{in_left, in_right}
+use Rattle.std.proofs.Common.{◌≡◌, ◌+◌, Bool, true, false, cond, not, ◌&&◌, List, [], ◌∷◌, ◌++◌, map, length, take, drop, is_some, Some, None, Decides, Option, sym, refl, ap, ◌∙◌, inl, inr, ⊎_elim, append-nil, arith}
 use Rattle.std.proofs.lemmas.List.{length-append, length-take, length-drop, take-append-drop}
 use Rattle.std.proofs.lemmas.Bool.{true≢false, and_from}
 use Rattle.std.specs.Option.{option_map}
@@ -7,6 +8,7 @@ use Rattle.std.specs.Ordering.{is_eq}
 use Rattle.paths.specs.Names.{Under}
 use Rattle.paths.specs.Order.{by_names}
 use Rattle.rows.specs.Maps.{Names, before, under, is_at, at, above, ascending, only, without, replaced, or_else}
+use Rattle.rows.specs.Builds.{same}
 use Rattle.rows.specs.Positions.{lead}
 use Rattle.rows.specs.Tables.{spliced}
 use Rattle.rows.proofs.Orders.{same-is, is_same, not_before_self}
@@ -114,21 +116,13 @@ module _ {V : Type 0} where
 
   -- ---- with rows put among them
 
-  in_left : (xs ys : List (Names × V)) (x : Names × V) → In xs x → In (xs ++ ys) x
-  in_left [] ys x i = absurd i
-  in_left (z ∷ xs) ys x i = ⊎_elim (λ s. inl s) (λ j. inr (in_left xs ys x j)) i
-
-  in_right : (xs ys : List (Names × V)) (x : Names × V) → In ys x → In (xs ++ ys) x
-  in_right [] ys x i = i
-  in_right (z ∷ xs) ys x i = inr (in_right xs ys x i)
-
   -- what stands in front comes before what stands behind
   front-before : (xs ys : List (Names × V)) → ascending (xs ++ ys) ≡ true → (x y : Names × V) → In xs x → In ys y → before x.0 y.0 ≡ true
   front-before [] ys up x y i j = absurd i
   front-before (z ∷ xs) ys up x y i j =
       ⊎_elim (λ s. ap (λ w. before w.0 y.0) s ∙ head_least z (xs ++ ys) up y (in_right xs ys y j)) (λ k. front-before xs ys (tail-ascends z (xs ++ ys) up) x y k j) i
 
-  at-append : (xs ys : List (Names × V)) (q : Names) → at (xs ++ ys) q ≡ or_else (at xs q) (at ys q)
+  pub at-append : (xs ys : List (Names × V)) (q : Names) → at (xs ++ ys) q ≡ or_else (at xs q) (at ys q)
   at-append [] ys q = refl
   at-append (x ∷ xs) ys q = at-cons x (xs ++ ys) q ∙ go (is_at q x) (at-append xs ys q) ∙ ap (λ o. or_else o (at ys q)) (sym (at-cons x xs q)) where
     go : (a : Bool) → at (xs ++ ys) q ≡ or_else (at xs q) (at ys q) → cond a (Some x.1) (at (xs ++ ys) q) ≡ or_else (cond a (Some x.1) (at xs q)) (at ys q)
@@ -148,6 +142,14 @@ module _ {V : Type 0} where
       ∙ ap (or_else (at new q)) (sym (at-append front back q)) where
         apart : (x y : V) → at front q ≡ Some x → at new q ≡ Some y → ⊥
         apart x y e f = not_before_self q (front-before front (new ++ back) up (q, x) (q, y) (at-holds front q x e) (in_left new back (q, y) (at-holds new q y f)))
+
+  -- rows that rise, with one more behind them
+  pub at-last : (rs : List (Names × V)) (r : Names × V) (q : Names) → ascending (rs ++ r ∷ []) ≡ true → at (rs ++ r ∷ []) q ≡ cond (same q r.0) (Some r.1) (at rs q)
+  at-last rs r q up =
+      at-between rs (r ∷ []) [] q up
+      ∙ ap (λ o. or_else o (at (rs ++ []) q)) (at-cons r [] q)
+      ∙ ap (λ xs. or_else (cond (same q r.0) (Some r.1) None) (at xs q)) (append-nil rs)
+      ∙ elim (same q r.0) as (λ t. or_else (cond t (Some r.1) None) (at rs q) ≡ cond t (Some r.1) (at rs q)) [ true ↦ refl | false ↦ refl ]
 
   pub at-spliced : (new rs : List (Names × V)) (q : Names) → ascending (spliced new rs) ≡ true → at (spliced new rs) q ≡ or_else (at new q) (at rs q)
   at-spliced [] rs q up = refl

@@ -6,7 +6,11 @@ pub mod Children
 pub mod Built
 pub mod Unders
 pub mod Changed
+pub mod Sets
 pub mod Ranges
 pub mod Tables
 pub mod Inserts
 pub mod Least
+pub mod Risen
+pub mod Earlier
+pub mod Lasts

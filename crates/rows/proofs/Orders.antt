@@ -1,4 +1,5 @@
 -- The order of names, as tests. Assumes nothing.
+pub use Rattle.paths.proofs.Steps.{last_child}
 use Rattle.std.proofs.Common.{◌≡◌, ℕ, ◌<◌, arith, length, true, List, [], ◌∷◌, ◌++◌, Ordering, Less, Equal, Greater, sym, refl, ap, ◌∙◌, subst}
 use Rattle.std.proofs.lemmas.Bool.{true≢false}
 use Rattle.std.specs.Cmp.{nat_cmp_total}
@@ -64,11 +65,6 @@ pub parent-child : (p : List (List ℕ)) (n : List ℕ) → parent (p ++ n ∷ [
 parent-child [] n = refl
 parent-child (m ∷ []) n = refl
 parent-child (m ∷ o ∷ p) n = ap (λ l. m ∷ l) (parent-child (o ∷ p) n)
-
-pub last_child : (p : List (List ℕ)) (n : List ℕ) → last_name (p ++ n ∷ []) ≡ n
-last_child [] n = refl
-last_child (m ∷ []) n = refl
-last_child (m ∷ o ∷ p) n = last_child (o ∷ p) n
 
 -- a path that is not the root is a child of its parent
 pub as_child : (m : List ℕ) (p : List (List ℕ)) → m ∷ p ≡ parent (m ∷ p) ++ last_name (m ∷ p) ∷ []

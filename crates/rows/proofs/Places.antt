@@ -1,16 +1,16 @@
 -- What comes before the place behind a name. Assumes nothing.
-use Rattle.std.proofs.Common.{◌≡◌, ℕ, ◌+◌, ◌<◌, Bool, true, false, not, ◌&&◌, eqb, ltb, leb, List, [], ◌∷◌, ◌++◌, length, take, Ordering, Less, Equal, Greater, sym, refl, ap, ◌∙◌, subst, append_assoc, append-nil, arith}
+use Rattle.std.proofs.Common.{◌≡◌, ℕ, ◌+◌, ◌<◌, Bool, true, false, eqb, ltb, List, [], ◌∷◌, ◌++◌, length, take, Ordering, Less, Equal, Greater, sym, refl, ap, ◌∙◌, subst, append_assoc, append-nil, arith}
 use Rattle.std.proofs.lemmas.List.{take_at, length-append}
-use Rattle.std.proofs.lemmas.Bool.{true≢false, both_ways, and_parts, not-true, eqb-false, cond-false, le-ltb, ne_eqb}
+use Rattle.std.proofs.lemmas.Bool.{true≢false, both_ways, cond-false, le-ltb, ne_eqb}
 use Rattle.std.specs.List.{AllByRecursion as All}
 use Rattle.std.specs.Cmp.{nat_cmp_total}
 use Rattle.std.specs.Cmp.Lexicographic.{lists_total}
 use Rattle.std.specs.Ordering.{is_lt, is_le, ordering_reverse, ordering_then, nat_cmp}
 use Rattle.paths.specs.declared.Path.{Path}
-use Rattle.paths.specs.Names.{plain, last_name, Under}
+use Rattle.paths.specs.Names.{last_name, Under}
 use Rattle.paths.specs.Order.{by_bytes, by_names}
 use Rattle.paths.specs.Paths.{text, names}
-use Rattle.paths.proofs.Joins.{Plain, good_parts, plain-from-fault}
+use Rattle.paths.proofs.Joins.{Plain, good_parts, plain-from-fault, no_zero_plain}
 use Rattle.paths.proofs.Laws.{NoZero, names-exact, prefix_first, between}
 use Rattle.rows.specs.Maps.{Names, before}
 use Rattle.rows.specs.Positions.{behind}
@@ -20,14 +20,6 @@ use Rattle.rows.proofs.Orders.{before-trans, before-le, shared, last_child}
 
 abbrev pub Clean : Names → Type 0
 Clean ns = All NoZero ns
-
-no_zero_plain : (n : List ℕ) → plain n ≡ true → NoZero n
-no_zero_plain [] h = tt
-no_zero_plain (b ∷ bs) h =
-    let p = and_parts (not (eqb b 0) && leb b 255) (not (eqb b 47) && plain bs) h in
-    let q = and_parts (not (eqb b 47)) (plain bs) p.1 in
-    let z = eqb-false b 0 (not-true (eqb b 0) (and_parts (not (eqb b 0)) (leb b 255) p.0).0) in
-    (omega arith, no_zero_plain bs q.1)
 
 clean-plain : (ns : Names) → Plain ns → Clean ns
 clean-plain [] h = tt

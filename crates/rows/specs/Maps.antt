@@ -42,6 +42,12 @@ module _ {V : Type 0} where
   ascending [] = true
   ascending (r ∷ rs) = above r.0 rs && ascending rs
 
+  -- p comes after every row: rows rise, so it is enough that it comes after the last
+  abbrev pub rises : List (Names × V) → Names → Bool
+  rises [] p = true
+  rises (r ∷ []) p = before r.0 p
+  rises (r ∷ s ∷ rs) p = rises (s ∷ rs) p
+
   -- the parent of each row has a row too; the root is its own parent
   abbrev pub rooted : List (Names × V) → List (Names × V) → Bool
   rooted all [] = true

@@ -6,6 +6,8 @@ use Rattle.rows.specs.Maps.{Names, at, has, ascending, rooted, under}
 use Rattle.rows.proofs.Orders.{parent-child}
 use Rattle.rows.proofs.Firsts.{In, there, at-holds, holds_at, child-there}
 use Rattle.rows.proofs.Unders.{strictly}
+use Rattle.rows.proofs.Risen.{in_parts}
+use Rattle.rows.proofs.Earlier.{passed-later}
 use Rattle.trees.specs.Entries.{fine, grown}
 
 pub is_none : {V : Type 0} (o : Option V) → is_some o ≡ false → o ≡ None
@@ -39,6 +41,18 @@ module _ {V : Type 0} (passes : V → Bool) (dir : Option V → Bool) where
       and_from ((fine r.0 && passes r.1) && dir (at all (parent r.0))) (grown passes dir all rs)
       (and_from (fine r.0 && passes r.1) (dir (at all (parent r.0))) (and_from (fine r.0) (passes r.1) s.good s.ranged) s.under)
       (grown-from all rs (λ x i. f x (inr i)))
+
+  -- one row more behind the others
+  pub grown_more : dir None ≡ false → (rs : List (Names × V)) (r : Names × V) → ascending (rs ++ r ∷ []) ≡ true → grown passes dir rs rs ≡ true → Sound passes dir (rs ++ r ∷ []) r → grown passes dir (rs ++ r ∷ []) (rs ++ r ∷ []) ≡ true
+  grown_more n rs r up g last = grown-from (rs ++ r ∷ []) (rs ++ r ∷ []) (λ x i. ⊎_elim (before x) (behind x) (in_parts rs (r ∷ []) x i)) where
+    before : (x : Names × V) → In rs x → Sound passes dir (rs ++ r ∷ []) x
+    before x i =
+        let s = grown_one rs rs g x i in
+        record { good = s.good; ranged = s.ranged; under = passed-later rs r [] up dir n (parent x.0) s.under }
+
+    behind : (x : Names × V) → In (r ∷ []) x → Sound passes dir (rs ++ r ∷ []) x
+    behind x (inl e) = subst (Sound passes dir (rs ++ r ∷ [])) (sym e) last
+    behind x (inr i) = absurd i
 
   pub sound-at : (rs : List (Names × V)) → grown passes dir rs rs ≡ true → (p : Names) (v : V) → at rs p ≡ Some v → Sound passes dir rs (p, v)
   sound-at rs g p v h = grown_one rs rs g (p, v) (at-holds rs p v h)

@@ -3,3 +3,5 @@ pub mod Closed
 pub mod Prefixed
 pub mod Lasts
 pub mod Answering
+pub mod Fine
+pub mod Written

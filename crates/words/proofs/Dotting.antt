@@ -7,7 +7,7 @@ use Rattle.paths.specs.declared.PathFault.TheVariants.{TooLong}
 use Rattle.paths.specs.Names.{split, fault_in, judge, judged, same, begins}
 use Rattle.words.specs.declared.fault.Cause.TheVariants.{Word, Path}
 use Rattle.std.specs.Option.{option_map}
-use Rattle.words.specs.Steps.{and_then_some}
+use Rattle.paths.specs.Steps.{and_then_some}
 use Rattle.words.specs.Words.{undotted, held, judged_word}
 
 -- a longer word is not the root's

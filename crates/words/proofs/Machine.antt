@@ -1,13 +1,13 @@
 -- What one byte of a word does to the bytes that it stands for. Assumes nothing.
-use Rattle.std.proofs.Common.{◌≡◌, ℕ, ◌+◌, ◌<◌, ◌≤◌, List, [], ◌∷◌, ◌++◌, length, get_or, take, drop, Some, None, Option, sym, refl, ap, ◌∙◌, append_assoc, append-nil}
+use Rattle.std.proofs.Common.{◌≡◌, ℕ, zero, suc, ◌+◌, ◌<◌, ◌≤◌, List, [], ◌∷◌, ◌++◌, length, get_or, take, drop, Some, None, Option, sym, refl, ap, ◌∙◌, append_assoc, append-nil, arith}
 use Rattle.std.proofs.lemmas.List.{at_drop_more, at_drop_all, take_all, take-append-le}
 use Rattle.std.proofs.lemmas.Bool.{eqb-true, eqb-false}
 use Rattle.std.specs.Option.{option_map}
 use Rattle.words.specs.declared.escape.State.{State}
 use Rattle.words.specs.declared.escape.State.TheVariants.{Plain, Backslash, OneDigit, TwoDigits}
 use Rattle.words.specs.declared.escape.Step.{Step}
-use Rattle.words.specs.declared.escape.Step.TheVariants.{Out}
-use Rattle.words.specs.Escapes.{step_of, onward, finished, undone}
+use Rattle.words.specs.declared.escape.Step.TheVariants.{To, Out}
+use Rattle.words.specs.Escapes.{step_of, onward, finished, undone, unescaped}
 
 -- the first n bytes, where s is done, and the rest of the word is to be read from a state
 abbrev pub after : ℕ → List ℕ → State → List ℕ → Option (List ℕ)
@@ -53,6 +53,32 @@ module _ (n : ℕ) (s : List ℕ) (t : State) (w : List ℕ) (i : ℕ) (end : le
   after_whole p h =
       after_end n s t w i end ∙ ap (λ t. option_map (λ l. take n (s ++ l)) (finished t)) p
       ∙ ap (λ l. Some (take n l)) (append-nil s) ∙ ap Some (take_all n s h)
+
+-- a byte that is made takes a byte of the word at least
+made_short : (n b : ℕ) (o : Option (List ℕ)) → option_map (take n) o ≡ o → option_map (take (suc n)) (option_map (λ l. b ∷ l) o) ≡ option_map (λ l. b ∷ l) o
+made_short n b None e = refl
+made_short n b (Some l) e =
+    let is : take n l ≡ l = cc in
+    ap (λ k. Some (b ∷ k)) is
+
+one_short : (n : ℕ) (bs : List ℕ) → ((v : State) → option_map (take (suc n)) (undone v bs) ≡ undone v bs) → option_map (take n) (undone Plain bs) ≡ undone Plain bs → (x : Option Step) → option_map (take (suc n)) (onward x (λ v. undone v bs)) ≡ onward x (λ v. undone v bs)
+one_short n bs more less None = refl
+one_short n bs more less (Some (To s)) = more s
+one_short n bs more less (Some (Out c)) = made_short n c (undone Plain bs) less
+
+-- a word stands for no more bytes than it has
+undone_short : (w : List ℕ) (t : State) (n : ℕ) → length w ≤ n → option_map (take n) (undone t w) ≡ undone t w
+unfolding undone
+undone_short [] Plain zero h = refl
+undone_short [] Plain (suc n) h = refl
+undone_short [] Backslash n h = refl
+undone_short [] (OneDigit k) n h = refl
+undone_short [] (TwoDigits k) n h = refl
+undone_short (b ∷ bs) t zero h = absurd (omega arith)
+undone_short (b ∷ bs) t (suc n) h = one_short n bs (λ v. undone_short bs v (suc n) (omega arith)) (undone_short bs Plain n (omega arith)) (step_of t b)
+
+pub no_longer : (w : List ℕ) → option_map (take (length w)) (unescaped w) ≡ unescaped w
+no_longer w = undone_short w Plain (length w) (omega arith)
 
 -- the steps of the loop over a word
 pub ruleset machine_steps = (after_step, after_push, after_full, after_cut, after_whole, eqb-true, eqb-false)

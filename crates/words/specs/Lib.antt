@@ -1,4 +1,3 @@
-pub mod Steps
 pub mod Printable
 pub mod Faults
 pub mod Escapes

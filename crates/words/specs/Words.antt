@@ -4,7 +4,7 @@ use Rattle.paths.specs.declared.PathFault.{PathFault}
 use Rattle.paths.specs.Names.{judge, same, begins}
 use Rattle.words.specs.declared.fault.Cause.{Cause}
 use Rattle.words.specs.declared.fault.Cause.TheVariants.{Word, Path}
-use Rattle.words.specs.Steps.{and_then_some}
+use Rattle.paths.specs.Steps.{and_then_some}
 use Rattle.words.specs.Escapes.{unescaped}
 
 -- `.` is the root; else `./` stands before the path, which is not empty

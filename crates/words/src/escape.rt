@@ -1,10 +1,11 @@
 // The escape machine: undoes the escapes of a word, byte by byte.
-ghost use Rattle.std.specs.Prelude.{◌≡◌, take, IfSome};
+ghost use Rattle.std.specs.Prelude.{◌≡◌, take, vec_items, IfSome, IfOk};
 ghost use Rattle.std.specs.Option.{option_map};
 ghost use Rattle.words.specs.Escapes.{Sound, SoundStep, step_of, unescaped};
 
 use crate::printable::is_printable;
 use arrayvec::ArrayVec;
+use std::alloc::{AllocError, Global};
 
 // What has been read of an escape.
 #[derive(Clone, Copy)]
@@ -62,5 +63,30 @@ pub(crate) fn unescape(word: &[u8]) -> Option<ArrayVec<u8, 123>>
     match state {
         State::Plain => Some(plain),
         _ => None,
+    }
+}
+
+// All the bytes that a word stands for.
+#[tactic(auto, using(crate::proofs::Machine::machine_steps, crate::proofs::Machine::no_longer))]
+pub fn unescape_all(heap: Global, word: &[u8]) -> Result<Option<Vec<u8>>, AllocError>
+    ensures { IfOk result (λ o. option_map vec_items o ≡ unescaped word.now) }
+{
+    let mut state = State::Plain;
+    let mut plain = Vec::new(heap);
+    for byte in word {
+        let Some(step) = take_byte(state, *byte) else {
+            return Ok(None);
+        };
+        state = match step {
+            Step::To(next) => next,
+            Step::Out(made) => {
+                plain.push(made)?;
+                State::Plain
+            }
+        };
+    }
+    match state {
+        State::Plain => Ok(Some(plain)),
+        _ => Ok(None),
     }
 }

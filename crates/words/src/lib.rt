@@ -10,12 +10,12 @@ use crate::escape::unescape;
 use crate::fault::Cause;
 use paths::Path;
 
-mod escape;
+pub mod escape;
 pub mod fault;
 pub mod printable;
 
 // The text of the path in a word without its escapes.
-fn dotless(plain: &[u8]) -> Option<&[u8]>
+pub fn dotless(plain: &[u8]) -> Option<&[u8]>
     ensures { MatchOption result (undotted plain.now ≡ None) (λ s. undotted plain.now ≡ Some s.now) }
 {
     match plain {

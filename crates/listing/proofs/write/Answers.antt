@@ -1,14 +1,20 @@
-use Rattle.std.proofs.Common.{◌∙◌, length, ap, arith}
+use Rattle.std.proofs.Common.{ℕ, List, [], ◌∷◌, ◌++◌, ◌∙◌, length, ap, refl, arith}
 use Rattle.std.specs.List.{concat}
-use Rattle.listing.specs.Lines.{lines}
+use Rattle.listing.specs.Lines.{listing}
 use Rattle.listing.proofs.Rest.{all_told}
-use Rattle.listing.proofs.Written.{room_for, more, done, begun}
+use Rattle.trees.proofs.Written.{unwritten, room_for, more, done}
 use Rattle.listing.proofs.write.Goals as goal
+
+abbrev header : List ℕ
+header = 35 ∷ 109 ∷ 116 ∷ 114 ∷ 101 ∷ 101 ∷ 10 ∷ []
 
 pub loop-line-init : goal.loop-line-init
 loop-line-init g c =
     let rows = (g.T.Tree.entries c.args.tree.now).rows in
-    begun c.copy_from_slice.new.self (lines rows) c.args.buffer.now _ c.copy_from_slice.ensures.after (ap concat (c.into_iter-line-iterator.ensures.into_iter_gives ∙ c.of-line-items.ensures) ∙ all_told rows)
+    let head = c.copy_from_slice.ensures.after in
+    let all = ap concat (c.into_iter-line-iterator.ensures.into_iter_gives ∙ c.of-line-items.ensures) ∙ all_told rows in
+    let none = unwritten (listing rows) c.args.buffer.now (header ∷ _) (ap (λ z. header ++ z) all) in
+    more _ _ _ _ _ none header _ refl c.copy_from_slice.new.self 7 7 head (omega arith) (ap length head) (omega (arith, ap length head))
 
 pub loop-line-preserved : goal.loop-line-preserved
 loop-line-preserved g c =

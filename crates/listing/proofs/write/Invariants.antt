@@ -1,5 +1,5 @@
 use Rattle.listing.specs.Lines.{listing}
-use Rattle.listing.proofs.Written.{Written}
+use Rattle.trees.proofs.Written.{Written}
 use Rattle.listing.proofs.write.Given as goal
 
 abbrev pub invariant-loop-line : goal.invariant-loop-line

@@ -1,7 +1,8 @@
 // What changes a table.
-ghost use Rattle.std.specs.Prelude.{◌≡◌, ◌+◌, ◌-◌, ◌≤◌, false, ◌++◌, length, take, drop, slice_range, if◌then◌else◌};
+ghost use Rattle.std.specs.Prelude.{◌≡◌, ◌+◌, ◌-◌, ◌≤◌, false, ◌||◌, ◌++◌, length, take, drop, Some, slice_range, nat_lt, if◌then◌else◌};
 ghost use Rattle.paths.specs.Paths.{names};
 ghost use Rattle.rows.specs.Maps.{has, replaced, without};
+ghost use Rattle.rows.specs.Builds.{set_at};
 ghost use Rattle.rows.specs.Rows.{rows_of};
 ghost use Rattle.rows.specs.Tables.{listed, spliced, splices};
 
@@ -47,6 +48,15 @@ impl<V: Copy, const N: usize> Table<V, N> {
         }
         last_to(self.rows.as_mut_slice(), at, new.len());
         true
+    }
+
+    // Sets the value at a path, over one that is there; false, where the path has no row and there is no room for one.
+    pub fn set(&mut self, path: &Path, value: V) -> bool
+        ensures answer { result ≡ (has (listed self.old) (names path.now) || nat_lt (length (listed self.old)) N) }
+        ensures rows { listed self.new ≡ (if result then set_at (listed self.old) (names path.now) (Some value) else listed self.old) }
+        ensures same { result ≡ false → self.new ≡ self.old }
+    {
+        self.replace(path, value) || self.insert(&[Row { path: *path, value }])
     }
 
     // Takes out the row at a path and those below it.

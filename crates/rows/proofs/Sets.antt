@@ -1,7 +1,8 @@
 -- Rows in which one path got a value. Assumes nothing.
-use Rattle.std.proofs.Common.{◌≡◌, ℕ, suc, ◌+◌, ◌-◌, ◌≤◌, Bool, true, false, cond, leb, List, [], ◌∷◌, ◌++◌, length, take, drop, is_some, Some, None, Option, Ordering, Less, Equal, Greater, sym, refl, ap, ◌∙◌, subst, ⊎_elim, arith}
+use Rattle.std.proofs.Common.{◌≡◌, ℕ, suc, ◌+◌, ◌≤◌, Bool, true, false, cond, ◌&&◌, ltb, leb, List, [], ◌∷◌, ◌++◌, length, take, drop, is_some, Some, None, Option, Ordering, Less, Equal, Greater, sym, refl, ap, ◌∙◌, subst, ⊎_elim, arith}
 use Rattle.std.proofs.lemmas.List.{length-map}
-use Rattle.std.proofs.lemmas.Bool.{true≢false, and_from, or_parts, cond-true, cond-false, le-leb}
+use Rattle.std.proofs.Math.Bool.{and-true}
+use Rattle.std.proofs.lemmas.Bool.{true≢false, or_parts, cond-true, cond-false}
 use Rattle.std.specs.Cmp.{nat_cmp_total}
 use Rattle.std.specs.Cmp.Lexicographic.{lists_total}
 use Rattle.std.specs.Option.{option_map}
@@ -14,7 +15,6 @@ use Rattle.rows.specs.Tables.{spliced, splices}
 use Rattle.rows.proofs.Built.{told, at-cons, among-has, at_set, ascending_set, ascends-add, ascends-keys, keys_ascend, same_rows, Ascends}
 use Rattle.rows.proofs.Changed.{at-replaced, ascending-replaced, keys-replaced, replaced-none, at-spliced, length-spliced}
 use Rattle.rows.proofs.Unders.{same_swap}
-use Rattle.trees.proofs.Grown.{is_none}
 
 module _ {V : Type 0} where
   -- ---- where the path has a row
@@ -36,7 +36,10 @@ module _ {V : Type 0} where
           ∙ sym (at-replaced p v rs q)
 
   pub replaced_absent : (rs : List (Names × V)) (p : Names) (v : V) → has rs p ≡ false → replaced rs p v ≡ rs
-  replaced_absent rs p v h = replaced-none p v rs (is_none (at rs p) h)
+  replaced_absent rs p v h = replaced-none p v rs (none (at rs p) h) where
+    none : (o : Option V) → is_some o ≡ false → o ≡ None
+    none None k = refl
+    none (Some w) k = absurd (true≢false k)
 
   pub length-replaced : (rs : List (Names × V)) (p : Names) (v : V) → length (replaced rs p v) ≡ length rs
   length-replaced rs p v =
@@ -63,10 +66,9 @@ module _ {V : Type 0} where
       one_rises =
           keys_ascend (spliced ((p, v) ∷ []) rs) (subst Ascends (sym (keys-spliced rs (sym (among-has rs p) ∙ none))) (ascends-add (keys rs) p (ascends-keys rs up)))
 
-      -- there is room for the row
-      pub one_splices : (room : ℕ) → 1 ≤ room - length rs → splices room ((p, v) ∷ []) rs ≡ true
-      one_splices room h =
-          and_from (leb (length rs + 1) room) (ascending (spliced ((p, v) ∷ []) rs)) (le-leb (length rs + 1) room (omega arith)) one_rises
+      -- they can, where there is room for one row more
+      pub one_splices : (room : ℕ) → splices room ((p, v) ∷ []) rs ≡ ltb (length rs) room
+      one_splices room = ap (λ b. leb (length rs + 1) room && b) one_rises ∙ and-true (leb (length rs + 1) room) ∙ grind arith
 
       pub set_spliced : set_at rs p (Some v) ≡ spliced ((p, v) ∷ []) rs
       set_spliced = same_rows (set_at rs p (Some v)) (spliced ((p, v) ∷ []) rs) (ascending_set rs p (Some v) up) one_rises alike where
