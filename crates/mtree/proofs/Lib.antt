@@ -1,4 +1,3 @@
-pub mod Deciding
 pub mod Digits
-pub mod Keys
+pub mod Lexing
 pub mod Reading

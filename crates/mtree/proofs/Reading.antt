@@ -3,7 +3,7 @@ use Rattle.std.proofs.Common.{◌≡◌, ℕ, List, Some, None, Ok, Err, Option,
 use Rattle.std.specs.Option.{ok_or}
 use Rattle.words.specs.declared.fault.Cause.{Cause}
 use Rattle.words.specs.declared.fault.Cause.TheVariants.{Value}
-use Rattle.words.specs.Steps.{and_then}
+use Rattle.paths.specs.Steps.{and_then}
 use Rattle.trees.specs.declared.entry.Entry.TheVariants.{File}
 use Rattle.mtree.specs.Lexed.{tail}
 use Rattle.mtree.specs.Numbers.{mode_of, size_of, content_of}

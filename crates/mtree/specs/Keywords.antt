@@ -1,12 +1,12 @@
 -- The keywords of a line. Assumes nothing.
-use Rattle.std.specs.Prelude.{◌≡◌, ℕ, ◌+◌, cond, ◌&&◌, List, [], ◌∷◌, ◌++◌, length, drop, Some, None, Ok, Err, Option, Result, nat_lt}
+use Rattle.std.specs.Prelude.{ℕ, ◌+◌, cond, ◌&&◌, List, [], ◌∷◌, length, drop, Some, None, Ok, Err, Option, Result, nat_lt}
 use Rattle.paths.specs.Names.{same}
 use Rattle.paths.specs.Pieces.{front}
 use Rattle.trees.specs.declared.entry.Entry.{Entry}
 use Rattle.trees.specs.declared.entry.Entry.TheVariants.{File, Dir}
 use Rattle.words.specs.declared.fault.Cause.{Cause}
 use Rattle.words.specs.declared.fault.Cause.TheVariants.{Keyword, Value}
-use Rattle.words.specs.Steps.{and_then}
+use Rattle.paths.specs.Steps.{and_then}
 use Rattle.mtree.specs.Lexed.{tail}
 use Rattle.mtree.specs.Numbers.{mode_of, size_of, content_of}
 
@@ -28,10 +28,6 @@ dir_word = 100 ∷ 105 ∷ 114 ∷ []
 
 abbrev pub file_word : List ℕ
 file_word = 102 ∷ 105 ∷ 108 ∷ 101 ∷ []
-
--- a name with the `=` behind it
-abbrev pub IsKey : List ℕ → Type 0
-IsKey key = key ≡ front 61 key ++ 61 ∷ []
 
 -- the value of the next field, which has to be the keyword of that name
 abbrev pub expected : List ℕ → List (List ℕ) → Result (List ℕ) Cause

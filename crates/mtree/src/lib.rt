@@ -3,6 +3,7 @@
 #![tactic(auto)]
 
 mod entries;
-mod fields;
+mod lexer;
 pub mod line;
-mod numbers;
+pub mod numbers;
+pub mod pieces;

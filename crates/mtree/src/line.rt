@@ -3,7 +3,7 @@ ghost use Rattle.std.specs.Prelude.{◌≡◌, Ok, Err, MatchResult};
 ghost use Rattle.rows.specs.Rows.{row_of};
 ghost use Rattle.mtree.specs.Lines.{line_of};
 
-use crate::fields::Fields;
+use crate::lexer::{Lexer, Token};
 use rows::row::Row;
 use trees::entry::Entry;
 use words::fault::Cause;
@@ -13,8 +13,11 @@ use words::read_path;
 pub fn parse_line(line: &[u8]) -> Result<Row<Entry>, Cause>
     ensures { MatchResult result (λ row. line_of line.now ≡ Ok (row_of row)) (λ e. line_of line.now ≡ Err e) }
 {
-    let (word, mut fields) = Fields::of(line);
-    let path = read_path(word)?;
-    let value = fields.entry()?;
+    let mut lexer = Lexer::of(line);
+    let Token::Word(word) = lexer.token() else {
+        return Err(Cause::Word);
+    };
+    let path = read_path(word.text)?;
+    let value = lexer.entry()?;
     Ok(Row { path, value })
 }

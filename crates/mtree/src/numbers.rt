@@ -1,6 +1,6 @@
-// Numbers as keywords hold them.
-ghost use Rattle.std.specs.Prelude.{◌≡◌, ◌*◌, ◌^◌, ◌<◌, ◌≤◌, length, IfSome};
-ghost use Rattle.mtree.specs.Numbers.{digit_value, numeral, mode_of, size_of, content_of};
+// Numbers as texts hold them.
+ghost use Rattle.std.specs.Prelude.{◌≡◌, ◌^◌, ◌<◌, ◌≤◌, length, IfSome};
+ghost use Rattle.mtree.specs.Numbers.{digit_value, wide_numeral, mode_of, size_of, content_of};
 
 // `char::to_digit` would take capital letters too.
 fn digit_value(base: u64, digit: u8) -> Option<u64>
@@ -15,22 +15,22 @@ fn digit_value(base: u64, digit: u8) -> Option<u64>
     value.map(u64::from).filter(|value| *value < base)
 }
 
-// The number that up to sixteen digits write.
+// The number that digits write, if it has 64 bits at most.
 #[tactic(auto, using(crate::proofs::Digits::numeral_steps))]
-fn read_numeral(base: u64, digits: &[u8]) -> Option<u64>
-    requires base { base ≤ 16 }
-    requires few { length digits.now ≤ 16 }
-    ensures value { result ≡ numeral base digits.now }
-    ensures small { IfSome result (λ n. n < 16 ^ length digits.now) }
+pub fn read_numeral(base: u64, digits: &[u8]) -> Option<u64>
+    ensures value { result ≡ wide_numeral base digits.now }
+    ensures small { base ≤ 16 → IfSome result (λ n. n < 16 ^ length digits.now) }
 {
-    let mut number = 0;
+    let mut number: u64 = 0;
     for digit in digits {
-        number = number * base + digit_value(base, *digit)?;
+        let digit = digit_value(base, *digit)?;
+        number = number.checked_mul(base)?.checked_add(digit)?;
     }
     Some(number)
 }
 
 // Four octal digits.
+#[tactic(auto, using(crate::proofs::Digits::numeral_fits))]
 pub(crate) fn read_mode(value: &[u8]) -> Option<u16>
     ensures { result ≡ mode_of value.now }
 {
@@ -41,6 +41,7 @@ pub(crate) fn read_mode(value: &[u8]) -> Option<u16>
 }
 
 // One to thirteen digits, at most 2^40, with no zero before another digit.
+#[tactic(auto, using(crate::proofs::Digits::numeral_fits))]
 pub(crate) fn read_size(value: &[u8]) -> Option<u64>
     ensures { result ≡ size_of value.now }
 {
@@ -52,7 +53,8 @@ pub(crate) fn read_size(value: &[u8]) -> Option<u64>
 }
 
 // Sixteen hexadecimal digits.
-pub(crate) fn read_content(value: &[u8]) -> Option<u64>
+#[tactic(auto, using(crate::proofs::Digits::numeral_fits))]
+pub fn read_content(value: &[u8]) -> Option<u64>
     ensures { result ≡ content_of value.now }
 {
     match value.len() {
