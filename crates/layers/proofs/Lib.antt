@@ -1,2 +1,3 @@
 pub mod Lacks
 pub mod Few
+pub mod Squashing

@@ -1,7 +1,8 @@
-// Layers: at most 192 rows of marks, and what they say of a path.
+// Layers: at most 192 rows of marks, what they say of a path, and how two are squashed.
 
 #![tactic(auto)]
 
 pub mod layer;
 pub mod marking;
+pub mod squash;
 pub mod writing;

@@ -6,9 +6,9 @@ use Rattle.std.specs.Ordering.{is_eq, ordering_reverse, ordering_then}
 use Rattle.paths.specs.Names.{prefixes}
 use Rattle.paths.specs.Order.{by_names}
 use Rattle.paths.proofs.Laws.{itself, names-exact}
-use Rattle.rows.specs.Maps.{Names, at}
+use Rattle.rows.specs.Maps.{Names, at, has, ascending}
 use Rattle.rows.specs.Builds.{same, among, put_by, add, union, keys, row, build}
-use Rattle.rows.proofs.Built.{Above, Ascends, flip, apart, above_chain, same-itself, same_path, among-union, ascends-union, at-built, keys-build, ascending-build, same_rows}
+use Rattle.rows.proofs.Built.{Above, Ascends, flip, apart, above_chain, same-itself, same_path, among-union, among-has, ascends-union, ascends-keys, at-built, keys-build, ascending-build, same_rows}
 use Rattle.marks.specs.Plain.{missing}
 use Rattle.std.specs.Cmp.Lexicographic.{lists_total}
 
@@ -132,3 +132,9 @@ module _ {V : Type 0} where
     go : (w : Option V) → length (build f ks) ≤ length ks → length (row k w (build f ks)) ≤ suc (length ks)
     go None h = omega arith
     go (Some v) h = omega arith
+
+-- rows that rise are at most as many as others that have all their paths
+pub length_has : {V W : Type 0} (m : List (Names × V)) (n : List (Names × W)) → ascending m ≡ true → ascending n ≡ true → ((q : Names) → has n q ≡ true → has m q ≡ true) → length n ≤ length m
+length_has m n a b h =
+    let within = length-within (keys m) (keys n) (ascends-keys m a) (ascends-keys n b) (λ q i. sym (among-has m q) ∙ h q (among-has n q ∙ i)) in
+    omega (arith, within, length-keys m, length-keys n)

@@ -21,11 +21,11 @@ use Rattle.edits.proofs.Belows.{below_none}
 use Rattle.marks.specs.declared.mark.Mark.{Mark}
 use Rattle.marks.specs.declared.mark.Mark.TheVariants.{Whiteout, File, Dir, Opaque}
 use Rattle.marks.specs.Marks.{MarkRow, entry_of, stops, is_opaque, holds, ranged, some_above, cut, unless, see, merged, layered}
-use Rattle.marks.specs.Edits.{written, made_dir, new_mode, write_some, shows_below, removed, marked}
+use Rattle.marks.specs.Edits.{written, made_dir, new_mode, write_some, shows_below, removed, marked, ProperDirs}
 use Rattle.marks.proofs.Cuts.{above_at, above_finds, opaque_cuts}
 use Rattle.marks.proofs.Merges.{at-merged, ascending-merged, layer_parts, holds-seen, merged-closed}
 use Rattle.marks.proofs.Writes.{not_over, not_at, seen_apart, seen_here, seen_below, seen_none}
-use Rattle.marks.proofs.Grows.{false-or, holds_real, not-below, ProperDirs, dirs-above, dirs-parent, layered-written, layered-without, at-kept, at_dropped, seen-without, dirs-without}
+use Rattle.marks.proofs.Grows.{false-or, holds_real, not-below, dirs-above, dirs-parent, layered-written, layered-without, at-kept, at_dropped, seen-without, dirs-without}
 
 -- what lies under a path and is not it does not lie above it
 strict : (q p : Names) → same q p ≡ false → under p q ≡ true → under q p ≡ false

@@ -16,7 +16,7 @@ use Rattle.edits.specs.Edits.{is_root}
 use Rattle.marks.specs.declared.mark.Mark.{Mark}
 use Rattle.marks.specs.declared.mark.Mark.TheVariants.{Dir}
 use Rattle.marks.specs.Marks.{MarkRow, stops, holds, ranged, cut, unless, see, merged, sound, layered}
-use Rattle.marks.specs.Edits.{lifted, written}
+use Rattle.marks.specs.Edits.{lifted, written, ProperDirs}
 use Rattle.marks.proofs.Cuts.{above_alike}
 use Rattle.marks.proofs.Merges.{at-merged, layer_parts, merged-closed}
 use Rattle.marks.proofs.Writes.{written-here, written-above, written_apart, ascending-written, holds-lifted}
@@ -38,10 +38,6 @@ off : (p q r : Names) → under p r ≡ false → under q r ≡ true → under p
 off p q r f u = false-or (under p q) (λ w. true≢false (sym (under-trans p q r w u) ∙ f))
 
 -- ---- the directories above a path
-
--- each proper prefix of the path is a directory
-abbrev pub ProperDirs : List Row → Names → Type 0
-ProperDirs rs p = (q : Names) → under q p ≡ true → same q p ≡ false → is_dir (at rs q) ≡ true
 
 module _ (rs : List Row) (c : closed rs rs ≡ true) where
   -- of a path that is there

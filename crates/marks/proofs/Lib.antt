@@ -1,4 +1,5 @@
 pub mod Cuts
+pub mod Lays
 pub mod Merges
 pub mod Writes
 pub mod Grows
@@ -7,3 +8,4 @@ pub mod Counts
 pub mod Noted
 pub mod Remade
 pub mod Seen
+pub mod Squashes

@@ -18,10 +18,10 @@ use Rattle.edits.proofs.Granted.{granted-put, granted-mkdir, granted-chmod}
 use Rattle.marks.specs.declared.mark.Mark.{Mark}
 use Rattle.marks.specs.declared.mark.Mark.TheVariants.{Whiteout, File, Dir, Opaque}
 use Rattle.marks.specs.Marks.{MarkRow, cut, unless, see, merged, layered}
-use Rattle.marks.specs.Edits.{lifted, write_at, written, made_dir, new_mode, new_mark, write_some, shows_below, removed, marked, lacking, lacks}
+use Rattle.marks.specs.Edits.{lifted, write_at, written, made_dir, new_mode, new_mark, write_some, shows_below, removed, marked, lacking, lacks, ProperDirs}
 use Rattle.marks.specs.Plain.{missing, unnoted}
 use Rattle.marks.proofs.Merges.{at-merged, layer_parts, merged-closed}
-use Rattle.marks.proofs.Grows.{ProperDirs, dirs-above, dirs-parent, ascending-without}
+use Rattle.marks.proofs.Grows.{dirs-above, dirs-parent, ascending-without}
 use Rattle.marks.proofs.Counts.{length_union, length-within, length-keys, length-build, ascends-prefixes, missing-none, missing_most}
 
 -- ---- the need, by the paths alone

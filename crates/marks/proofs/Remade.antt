@@ -18,12 +18,12 @@ use Rattle.edits.proofs.Granted.{granted-put, granted-mkdir, granted-remove}
 use Rattle.marks.specs.declared.mark.Mark.{Mark}
 use Rattle.marks.specs.declared.mark.Mark.TheVariants.{Whiteout, File, Dir, Opaque}
 use Rattle.marks.specs.Marks.{MarkRow, is_opaque, below, some_above, cut, unless, see, merged, layered}
-use Rattle.marks.specs.Edits.{lifted, written, made_dir, new_mode, shows_below, removed, marked}
+use Rattle.marks.specs.Edits.{lifted, written, made_dir, new_mode, shows_below, removed, marked, ProperDirs}
 use Rattle.marks.specs.Plain.{note, clear, some_proper, would_show, granted_plain, opaque_paths, plain_of}
 use Rattle.marks.proofs.Merges.{at-merged, layer_parts, merged-closed}
 use Rattle.marks.proofs.Writes.{written-here, written-above, written_apart, ascending-written}
 use Rattle.marks.proofs.Counts.{above-not, same_paths}
-use Rattle.marks.proofs.Grows.{ProperDirs, dirs-above, dirs-without, at_dropped, ascending-without}
+use Rattle.marks.proofs.Grows.{dirs-above, dirs-without, at_dropped, ascending-without}
 use Rattle.marks.proofs.Edited.{entries-marked}
 use Rattle.marks.proofs.Noted.{writes, keys-written}
 
@@ -43,7 +43,7 @@ ascends-opaque (r ∷ m) h = go (is_opaque (Some r.1)) (ascends-opaque m h.1) wh
   go true a = (above-opaque r.0 m h.0, a)
   go false a = a
 
-among-opaque : (m : List MarkRow) → Ascends (keys m) → (q : Names) → among (opaque_paths m) q ≡ is_opaque (at m q)
+pub among-opaque : (m : List MarkRow) → Ascends (keys m) → (q : Names) → among (opaque_paths m) q ≡ is_opaque (at m q)
 among-opaque [] h q = refl
 among-opaque (r ∷ m) h q =
     go (is_opaque (Some r.1)) (same q r.0) refl refl (among-opaque m h.1 q) ∙ sym (ap is_opaque (at-cons r m q)) where

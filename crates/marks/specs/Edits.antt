@@ -1,11 +1,11 @@
 -- What edits do to the marks of a layer over a tree. Assumes nothing.
-use Rattle.std.specs.Prelude.{ℕ, suc, Bool, false, cond, not, ◌&&◌, List, [], ◌∷◌, Some, None, Option}
+use Rattle.std.specs.Prelude.{◌≡◌, ℕ, suc, Bool, true, false, cond, not, ◌&&◌, List, [], ◌∷◌, Some, None, Option}
 use Rattle.paths.specs.Names.{prefixes}
 use Rattle.rows.specs.Maps.{Names, at, has, under, without}
 use Rattle.rows.specs.Builds.{same, keys, build, union}
 use Rattle.trees.specs.declared.entry.Entry.{Entry}
 use Rattle.trees.specs.declared.entry.Entry.TheVariants as entry
-use Rattle.trees.specs.Entries.{Row}
+use Rattle.trees.specs.Entries.{Row, is_dir}
 use Rattle.edits.specs.declared.action.Action.{Action}
 use Rattle.edits.specs.declared.action.Action.TheVariants.{Put, Mkdir, Chmod, Remove}
 use Rattle.marks.specs.declared.mark.Mark.{Mark}
@@ -13,6 +13,10 @@ use Rattle.marks.specs.declared.mark.Mark.TheVariants.{Whiteout, File, Dir, Opaq
 use Rattle.marks.specs.Marks.{MarkRow, is_opaque, some_above, merged}
 
 -- ---- copy-up
+
+-- each proper prefix of the path is a directory
+abbrev pub ProperDirs : List Row → Names → Type 0
+ProperDirs rs p = (q : Names) → under q p ≡ true → same q p ≡ false → is_dir (at rs q) ≡ true
 
 -- a directory without a mark is copied up
 abbrev pub lifted : Option Mark → Option Entry → Option Mark

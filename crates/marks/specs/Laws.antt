@@ -1,11 +1,12 @@
 -- The laws of a layer's marks over a tree, as statements. Assumes nothing.
-use Rattle.std.specs.Prelude.{◌≡◌, ℕ, ◌+◌, ◌≤◌, Bool, true, false, ◌&&◌, List, length, None}
+use Rattle.std.specs.Prelude.{◌≡◌, ℕ, ◌+◌, ◌≤◌, Bool, true, false, ◌&&◌, ◌||◌, List, [], length, None}
 use Rattle.rows.specs.Maps.{Names, at, ascending}
 use Rattle.trees.specs.Entries.{Row, fine, closed}
 use Rattle.edits.specs.declared.action.Action.{Action}
 use Rattle.edits.specs.Edits.{edited, removes, refused_at}
 use Rattle.marks.specs.Marks.{MarkRow, cut, unless, see, merged, layered}
 use Rattle.marks.specs.Edits.{marked, lacks}
+use Rattle.marks.specs.Squash.{over, squashed}
 use Rattle.marks.specs.Plain.{unnoted, granted_plain, plain_of}
 
 -- the rows rise, and make a tree
@@ -40,3 +41,22 @@ pub record Lawful (m : List MarkRow) (e : List Row) (layer : layered m ≡ true)
   pub rows_taken : (room : ℕ) (p : Names) (a : Action) → Granted m e room p a → removes a ≡ false → length (marked m e p a) ≡ length m + lacks m p
   -- and its path then needs nothing more
   pub need_none : (room : ℕ) (p : Names) (a : Action) → Granted m e room p a → removes a ≡ false → lacks (marked m e p a) p ≡ 0
+
+-- what holds of the squash of a layer u over a layer l
+pub record SquashLaws (u l : List MarkRow) (upper : layered u ≡ true) (lower : layered l ≡ true) : Type 0 where
+  -- it is a layer
+  pub is_layer : layered (squashed u l) ≡ true
+  -- at each path it has the upper mark over the lower one, or over none where the upper layer cuts the path off
+  pub squash_at : (p : Names) → at (squashed u l) p ≡ over (at u p) (unless (cut (at u) p) (at l p))
+  -- it cuts off what either layer cuts off
+  pub cuts : (p : Names) → cut (at (squashed u l)) p ≡ (cut (at u) p || cut (at l) p)
+  -- laid over a tree, it has the entries of the two laid one over the other
+  pub lays : (e : List Row) → treed e ≡ true → merged (squashed u l) e ≡ merged u (merged l e)
+  -- of three layers it does not matter which two are squashed first
+  pub associates : (k : List MarkRow) → layered k ≡ true → squashed (squashed u l) k ≡ squashed u (squashed l k)
+  -- the layer without rows changes nothing, above or below
+  pub over_empty : squashed u [] ≡ u
+  pub empty_over : squashed [] l ≡ l
+  -- each row of the upper layer stays, and no row is there that neither had
+  pub rows_least : length u ≤ length (squashed u l)
+  pub rows_sum : length (squashed u l) ≤ length u + length l

@@ -1,6 +1,7 @@
 // What a layer says of a path.
 ghost use Rattle.std.specs.Prelude.{◌≡◌, Some};
 ghost use Rattle.marks.specs.Marks.{entry_of, mark_of, stops, is_opaque};
+ghost use Rattle.marks.specs.Squash.{over};
 
 use trees::entry::{DirMeta, Entry, FileMeta};
 
@@ -38,6 +39,17 @@ impl Mark {
         ensures { result ≡ is_opaque (Some self) }
     {
         matches!(self, Mark::Opaque(_))
+    }
+
+    // This mark over one of a lower layer, as a squash has it. What the lower mark hides stays hidden.
+    pub fn over(self, lower: Option<Mark>) -> Mark
+        ensures { over (Some self) lower ≡ Some result }
+    {
+        match (self, lower) {
+            (Mark::Whiteout | Mark::File(_) | Mark::Opaque(_), _) => self,
+            (Mark::Dir(dir), Some(lower)) if lower.is_cut() => Mark::Opaque(dir),
+            (Mark::Dir(_), None | Some(_)) => self,
+        }
     }
 }
 

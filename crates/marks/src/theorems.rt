@@ -2,9 +2,14 @@
 ghost use Rattle.std.specs.Prelude.{◌≡◌, true, List};
 ghost use Rattle.trees.specs.Entries.{Row};
 ghost use Rattle.marks.specs.Marks.{MarkRow, layered};
-ghost use Rattle.marks.specs.Laws.{treed, Lawful};
+ghost use Rattle.marks.specs.Laws.{treed, Lawful, SquashLaws};
 
 // They hold of every layer over every tree.
 pub fn laws_stand()
     ensures { (m : List MarkRow) (e : List Row) (layer : layered m ≡ true) (tree : treed e ≡ true) → Lawful m e layer tree }
+{}
+
+// Those of a squash hold of any two layers.
+pub fn squash_laws_stand()
+    ensures { (u l : List MarkRow) (upper : layered u ≡ true) (lower : layered l ≡ true) → SquashLaws u l upper lower }
 {}
