@@ -10,8 +10,7 @@ use Rattle.edits.specs.Edits.{refused_at}
 use Rattle.edits.proofs.Granted.{granted-room}
 use Rattle.marks.specs.declared.mark.Mark.{Mark}
 use Rattle.marks.specs.Marks.{MarkRow, merged, layered}
-use Rattle.marks.specs.Edits.{written, new_mark, marked, lacks}
-use Rattle.marks.proofs.Grows.{ProperDirs}
+use Rattle.marks.specs.Edits.{written, new_mark, marked, lacks, ProperDirs}
 use Rattle.marks.proofs.Edited.{layered-marked}
 use Rattle.marks.proofs.Noted.{Writes, writes}
 use Rattle.sessions.specs.Sessions.{room_of}

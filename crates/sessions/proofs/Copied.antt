@@ -1,11 +1,10 @@
 -- The rows that a copy-up adds, put among those that are there. Assumes nothing.
-use Rattle.std.proofs.Common.{◌≡◌, ℕ, suc, ◌+◌, ◌≤◌, Bool, true, false, cond, leb, List, [], ◌∷◌, ◌++◌, map, length, take, drop, is_some, Some, None, Option, sym, refl, ap, ◌∙◌, subst, inl, inr, ⊎_elim, append_assoc, length-append, arith}
-use Rattle.std.proofs.lemmas.List.{take_all, drop_all}
-use Rattle.std.proofs.lemmas.Bool.{true≢false, and_parts, and_from, cond-true, cond-false, le-leb, cases_Bool}
+use Rattle.std.proofs.Common.{◌≡◌, ℕ, ◌+◌, ◌≤◌, Bool, true, false, cond, leb, List, [], ◌∷◌, ◌++◌, map, length, is_some, Some, None, Option, sym, refl, ap, ◌∙◌, subst, inl, inr, ⊎_elim, append_assoc, length-append, arith}
+use Rattle.std.proofs.lemmas.Bool.{true≢false, and_from, cond-true, cond-false, le-leb, cases_Bool}
 use Rattle.std.specs.List.{AllByRecursion as All}
 use Rattle.std.specs.Option.{option_map}
 use Rattle.paths.specs.Names.{prefixes}
-use Rattle.rows.specs.Maps.{Names, at, has, before, above, ascending, under, replaced, or_else}
+use Rattle.rows.specs.Maps.{Names, at, has, ascending, under, replaced, or_else}
 use Rattle.rows.specs.Builds.{same, row, build}
 use Rattle.rows.specs.Positions.{lead}
 use Rattle.rows.specs.Tables.{spliced, splices}
@@ -15,13 +14,13 @@ use Rattle.rows.proofs.Unders.{under_goes, under-itself, under_rest, among-prefi
 use Rattle.rows.proofs.Changed.{at-replaced, ascending-replaced, at-spliced, length-spliced}
 use Rattle.rows.proofs.Ranges.{under_late}
 use Rattle.rows.proofs.Inserts.{spliced-rises}
+use Rattle.rows.proofs.Lasts.{rises_front, spliced_last}
 use Rattle.trees.specs.declared.entry.Entry.{Entry}
 use Rattle.trees.specs.Entries.{Row}
 use Rattle.trees.proofs.Grown.{grown-rooted}
 use Rattle.marks.specs.declared.mark.Mark.{Mark}
 use Rattle.marks.specs.Marks.{MarkRow, holds, ranged, merged, layered}
-use Rattle.marks.specs.Edits.{lifted, write_at, written, lacks}
-use Rattle.marks.proofs.Grows.{ProperDirs}
+use Rattle.marks.specs.Edits.{lifted, write_at, written, lacks, ProperDirs}
 use Rattle.marks.proofs.Counts.{ascends-prefixes}
 use Rattle.marks.proofs.Grows.{holds_real}
 use Rattle.marks.proofs.Merges.{layer_parts}
@@ -133,30 +132,6 @@ module _ (x : Mark) (m : List MarkRow) (e : List Row) (p : Names) (lm : layered 
   put_done dirs room new after f h = h ∙ ap (λ z. cond (has m p) (replaced m p x) (cond (splices 192 z m) (spliced z m) m)) f ∙ put_result dirs room
 
 -- ---- the new rows, one prefix after the other
-
--- rows that rise: those in front do without the rest, and all come before the next
-rises_front : {V : Type 0} (rs : List (Names × V)) (r : Names × V) (rest : List (Names × V)) → ascending (rs ++ r ∷ rest) ≡ true → (ascending (rs ++ r ∷ []) ≡ true) × (lead r.0 rs ≡ length rs)
-rises_front [] r rest up = (refl, refl)
-rises_front {V} (x ∷ rs) r rest up =
-    let d = and_parts (above x.0 (rs ++ r ∷ rest)) (ascending (rs ++ r ∷ rest)) up in
-    let k = rises_front rs r rest d.1 in (
-      and_from (above x.0 (rs ++ r ∷ [])) (ascending (rs ++ r ∷ [])) (sym (alike rs) ∙ d.0) k.0,
-      cond-true (before x.0 r.0) (suc (lead r.0 rs)) 0 (head_least x (rs ++ r ∷ rest) up r (inside rs)) ∙ ap suc k.1,
-    ) where
-      alike : (rs : List (Names × V)) → above x.0 (rs ++ r ∷ rest) ≡ above x.0 (rs ++ r ∷ [])
-      alike [] = refl
-      alike (y ∷ rs) = refl
-
-      inside : (rs : List (Names × V)) → In (rs ++ r ∷ rest) r
-      inside [] = inl refl
-      inside (y ∷ rs) = inr (inside rs)
-
--- a row that is put where all others come before it is the last
-spliced_last : {V : Type 0} (rs : List (Names × V)) (r : Names × V) → lead r.0 rs ≡ length rs → spliced (r ∷ []) rs ≡ rs ++ r ∷ []
-spliced_last rs r h =
-    ap (λ k. take k rs ++ r ∷ drop k rs) h
-    ∙ ap (λ z. z ++ r ∷ drop (length rs) rs) (take_all (length rs) rs (omega arith))
-    ∙ ap (λ z. rs ++ r ∷ z) (drop_all (length rs) rs (omega arith))
 
 -- a prefix of a path has one name more below
 under_more : (n : List ℕ) (q p : Names) → under q p ≡ true → under (n ∷ q) (n ∷ p) ≡ true

@@ -1,14 +1,14 @@
 -- An edit of a session, refused or granted. Assumes nothing.
-use Rattle.std.proofs.Common.{◌≡◌, ℕ, ◌≤◌, Bool, true, false, not, ◌&&◌, List, length, is_some, Some, None, Ok, Err, Option, Result, sym, refl, ap, ◌∙◌, subst, arith}
+use Rattle.std.proofs.Common.{◌≡◌, ℕ, ◌≤◌, true, ◌&&◌, List, length, is_some, Some, None, Ok, Err, Option, Result, sym, refl, ap, ◌∙◌, subst, arith}
 use Rattle.std.proofs.lemmas.Bool.{true≢false}
 use Rattle.paths.specs.declared.PathFault.{PathFault}
-use Rattle.paths.specs.Names.{split, fault, judged, judge}
+use Rattle.paths.specs.Names.{judge}
 use Rattle.rows.specs.Maps.{Names, ascending}
 use Rattle.trees.specs.declared.fault.Fault.{Fault}
 use Rattle.trees.specs.Entries.{Row, closed, fine}
 use Rattle.edits.specs.declared.action.Action.{Action}
 use Rattle.edits.specs.Edits.{refused_at, answered, unless_refused, Outcome}
-use Rattle.edits.proofs.Belows.{good-fine}
+use Rattle.trees.proofs.Fine.{judged-fine}
 use Rattle.edits.proofs.Granted.{granted-room}
 use Rattle.edits.proofs.Outcomes.{bad_refusal, good-refusal, refused-outcome, granted-outcome}
 use Rattle.marks.specs.Marks.{MarkRow, merged, layered}
@@ -17,12 +17,6 @@ use Rattle.marks.proofs.Merges.{layer_parts}
 use Rattle.marks.proofs.Edited.{entries-marked}
 use Rattle.marks.proofs.Noted.{length_marked, lacks-granted}
 use Rattle.sessions.specs.Sessions.{room_of, marked_in, refusal_over, marks_after}
-
-judge-fine : (s : List ℕ) (p : Names) → judge s ≡ Ok p → fine p ≡ true
-judge-fine s p h = go (fault s) refl h where
-  go : (o : Option PathFault) → fault s ≡ o → judged (split s) o ≡ Ok p → fine p ≡ true
-  go None f k = let q : split s ≡ p = cc in subst (λ z. fine z ≡ true) q (good-fine s (ap (λ o. not (is_some o)) f))
-  go (Some x) f k = let z : ◌≡◌ {A = Bool} true false = cc in absurd (true≢false z)
 
 -- ---- what `edit_marks` answers
 
@@ -54,7 +48,7 @@ module _ (m : List MarkRow) (e : List Row) (lm : layered m ≡ true) (le : (asce
 
   by_refusal : (o : Option Fault) (j : Result Names PathFault) → refusal_over m e s a ≡ o → judge s ≡ j → SessionOutcome m (unless_refused o m (marked_in m e a j)) e s a (answered o)
   by_refusal (Some f) j h k = some-fault f h
-  by_refusal None (Ok p) h k = judged-good p k (judge-fine s p k) h
+  by_refusal None (Ok p) h k = judged-good p k (judged-fine s p k) h
   by_refusal None (Err f) h k = absurd (true≢false (ap is_some (sym (bad_refusal (merged m e) (room_of m) (lacks m) s a f k) ∙ h)))
 
   -- what `edit` of an editable tree promises

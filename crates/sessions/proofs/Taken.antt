@@ -8,9 +8,9 @@ use Rattle.edits.specs.Edits.{refused_at}
 use Rattle.edits.proofs.Granted.{granted-remove, granted-room}
 use Rattle.marks.specs.declared.mark.Mark.TheVariants.{Whiteout}
 use Rattle.marks.specs.Marks.{MarkRow, merged, layered}
-use Rattle.marks.specs.Edits.{written, shows_below, removed, lacks}
+use Rattle.marks.specs.Edits.{written, shows_below, removed, lacks, ProperDirs}
 use Rattle.marks.proofs.Merges.{layer_parts, merged-closed}
-use Rattle.marks.proofs.Grows.{ProperDirs, dirs-above, dirs-without, layered-without}
+use Rattle.marks.proofs.Grows.{dirs-above, dirs-without, layered-without}
 use Rattle.marks.proofs.Edited.{layered-marked}
 use Rattle.marks.proofs.Noted.{length_marked, length-written}
 use Rattle.sessions.specs.Sessions.{room_of}

@@ -4,9 +4,8 @@ ghost use Rattle.paths.specs.Paths.{names};
 ghost use Rattle.edits.specs.Edits.{refused_at, answered, Outcome};
 ghost use Rattle.marks.specs.Marks.{layered};
 ghost use Rattle.marks.specs.Laws.{Granted};
-ghost use Rattle.edits.specs.declared.action.Action.TheVariants.{Remove};
-ghost use Rattle.marks.specs.Edits.{written, shows_below, removed, marked, lacks};
-ghost use Rattle.marks.proofs.Grows.{ProperDirs};
+ghost use Rattle.edits.specs.declared.action.Action.TheVariants.{Put, Mkdir, Chmod, Remove};
+ghost use Rattle.marks.specs.Edits.{written, shows_below, removed, marked, lacks, ProperDirs};
 ghost use Rattle.sessions.specs.Sessions.{room_of, refusal_over, marks_after, marks_in, rows_below, seen_rows};
 ghost use Rattle.marks.proofs.Noted.{lacks_most};
 
@@ -20,6 +19,7 @@ use marks::mark::Mark;
 use marks::writing::mark_after;
 use paths::Path;
 use trees::asked;
+use trees::entry::Entry;
 use trees::fault::Fault;
 use trees::store::Store;
 use trees::tree::Tree;
@@ -79,7 +79,7 @@ impl<T: Tree> Session<T> {
     }
 
     // Makes one change at a path, or refuses and leaves all as it was: the marks afterwards.
-    pub fn edit_marks(&mut self, path: &[u8], action: Action) -> Result<(), Fault>
+    fn edit_marks(&mut self, path: &[u8], action: Action) -> Result<(), Fault>
         ensures answer { result ≡ answered (refusal_over (marks_in self.old) (rows_below T.Tree.entries self.old) path.now action) }
         ensures marks { marks_in self.new ≡ marks_after (marks_in self.old) (rows_below T.Tree.entries self.old) path.now action }
         ensures lower { self.new.lower ≡ self.old.lower }
@@ -112,7 +112,45 @@ impl<T: Tree> Editable for Session<T> {
         ensures outcome { Outcome (seen_rows T.Tree.entries self.old) (seen_rows T.Tree.entries self.new) (room_of (marks_in self.old)) (room_of (marks_in self.new)) (lacks (marks_in self.old)) (lacks (marks_in self.new)) path.now action result }
         ensures marks { marks_in self.new ≡ marks_after (marks_in self.old) (rows_below T.Tree.entries self.old) path.now action }
         ensures lower { self.new.lower ≡ self.old.lower }
+        ensures refused { is_ok result ≡ false → self.new ≡ self.old }
     {
         self.edit_marks(path, action)
+    }
+
+    // The four by name, which say of the marks what `edit` says: the trait knows of none.
+    fn put(&mut self, path: &[u8], entry: Entry) -> Result<(), Fault>
+        ensures outcome { Outcome (seen_rows T.Tree.entries self.old) (seen_rows T.Tree.entries self.new) (room_of (marks_in self.old)) (room_of (marks_in self.new)) (lacks (marks_in self.old)) (lacks (marks_in self.new)) path.now (Put entry) result }
+        ensures marks { marks_in self.new ≡ marks_after (marks_in self.old) (rows_below T.Tree.entries self.old) path.now (Put entry) }
+        ensures lower { self.new.lower ≡ self.old.lower }
+        ensures refused { is_ok result ≡ false → self.new ≡ self.old }
+    {
+        self.edit(path, Action::Put(entry))
+    }
+
+    fn mkdir(&mut self, path: &[u8], mode: u16) -> Result<(), Fault>
+        ensures outcome { Outcome (seen_rows T.Tree.entries self.old) (seen_rows T.Tree.entries self.new) (room_of (marks_in self.old)) (room_of (marks_in self.new)) (lacks (marks_in self.old)) (lacks (marks_in self.new)) path.now (Mkdir mode) result }
+        ensures marks { marks_in self.new ≡ marks_after (marks_in self.old) (rows_below T.Tree.entries self.old) path.now (Mkdir mode) }
+        ensures lower { self.new.lower ≡ self.old.lower }
+        ensures refused { is_ok result ≡ false → self.new ≡ self.old }
+    {
+        self.edit(path, Action::Mkdir(mode))
+    }
+
+    fn chmod(&mut self, path: &[u8], mode: u16) -> Result<(), Fault>
+        ensures outcome { Outcome (seen_rows T.Tree.entries self.old) (seen_rows T.Tree.entries self.new) (room_of (marks_in self.old)) (room_of (marks_in self.new)) (lacks (marks_in self.old)) (lacks (marks_in self.new)) path.now (Chmod mode) result }
+        ensures marks { marks_in self.new ≡ marks_after (marks_in self.old) (rows_below T.Tree.entries self.old) path.now (Chmod mode) }
+        ensures lower { self.new.lower ≡ self.old.lower }
+        ensures refused { is_ok result ≡ false → self.new ≡ self.old }
+    {
+        self.edit(path, Action::Chmod(mode))
+    }
+
+    fn remove(&mut self, path: &[u8]) -> Result<(), Fault>
+        ensures outcome { Outcome (seen_rows T.Tree.entries self.old) (seen_rows T.Tree.entries self.new) (room_of (marks_in self.old)) (room_of (marks_in self.new)) (lacks (marks_in self.old)) (lacks (marks_in self.new)) path.now (Remove) result }
+        ensures marks { marks_in self.new ≡ marks_after (marks_in self.old) (rows_below T.Tree.entries self.old) path.now (Remove) }
+        ensures lower { self.new.lower ≡ self.old.lower }
+        ensures refused { is_ok result ≡ false → self.new ≡ self.old }
+    {
+        self.edit(path, Action::Remove)
     }
 }

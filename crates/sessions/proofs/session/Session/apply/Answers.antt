@@ -1,6 +1,6 @@
 use Rattle.std.proofs.Common.{refl, sym, ap, ◌∙◌, subst}
 use Rattle.paths.specs.Paths.{names}
-use Rattle.edits.proofs.Belows.{path_fine}
+use Rattle.trees.proofs.Fine.{path_fine}
 use Rattle.layers.proofs.Few.{few-rows}
 use Rattle.marks.specs.Edits.{marked}
 use Rattle.marks.specs.Laws.{Granted}

@@ -1,7 +1,7 @@
 use Rattle.std.proofs.Common.{sym, ◌∙◌}
 use Rattle.paths.specs.Paths.{names}
 use Rattle.rows.specs.Tables.{listed}
-use Rattle.edits.proofs.Belows.{path_fine}
+use Rattle.trees.proofs.Fine.{path_fine}
 use Rattle.layers.proofs.Few.{few-rows}
 use Rattle.sessions.specs.Sessions.{marks_in, rows_below}
 use Rattle.sessions.proofs.Taken.{taken}
