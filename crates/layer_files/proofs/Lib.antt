@@ -1,0 +1,15 @@
+pub mod Placed
+pub mod Taken
+pub mod Rows
+pub mod Back
+pub mod Layered
+pub mod Forth
+pub mod ForthRows
+pub mod Pushes
+pub mod Left
+pub mod Fits
+pub mod Steps
+pub mod Markers
+pub mod Marked
+pub mod Turns
+pub mod Again

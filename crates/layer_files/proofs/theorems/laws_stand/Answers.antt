@@ -1,0 +1,8 @@
+use Rattle.layer_files.proofs.Layered.{is_layer}
+use Rattle.layer_files.proofs.Back.{writes_back}
+use Rattle.layer_files.proofs.ForthRows.{reads-back}
+use Rattle.layer_files.proofs.Fits.{fits}
+use Rattle.layer_files.proofs.theorems.laws_stand.Goals as goal
+
+pub returns : goal.returns
+returns c = record { is_layer = is_layer; writes_back = writes_back; reads_back = reads-back; fits = fits }

@@ -1,0 +1,4 @@
+pub mod Files
+pub mod Reads
+pub mod Laws
+pub mod Readers
