@@ -1,0 +1,6 @@
+pub mod Reads
+pub mod Values
+pub mod Verbs
+pub mod Arguments
+pub mod Lines
+pub mod Scripts

@@ -1,0 +1,10 @@
+// Scripts: texts that ask for calls on a session, line by line.
+
+#![tactic(auto)]
+
+mod arguments;
+mod fault;
+mod line;
+pub mod script;
+mod values;
+mod verb;
