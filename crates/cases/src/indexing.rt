@@ -8,7 +8,7 @@ use std::io;
 use std::io::Write;
 use trees::entry::Entry;
 
-// Printed here and shown by the tests of `checks`: no product prints an entry so, and a crate for six lines is no plainer.
+// Printed here: no product prints an entry so.
 pub(crate) fn print_entry(rt: &HostRuntime, entry: Entry) -> io::Result<()> {
     match entry {
         Entry::Dir(dir) => println!(rt; "dir {:o}", dir.mode),

@@ -13,7 +13,7 @@ use asking::{Question, ask_base};
 use faults::print_faults;
 use indexing::{print_index, print_load};
 use outcomes::{print_outcome, print_report};
-use reports::report::report_manifest;
+use reports::report::report_pile;
 use spelling::{add_rows, spelled};
 use std::{fs, io};
 
@@ -36,7 +36,7 @@ fn run_line(rt: &HostRuntime, base: &mut Vec<u8>, line: &str) -> io::Result<()> 
         "rows" => add_rows(base, number, first, second),
         "text" => print_outcome(rt, text, number),
         "index" => print_index(rt, text, number),
-        "report" => print_report(rt, report_manifest(rt.alloc(), text)?),
+        "report" => print_report(rt, report_pile(rt.alloc(), text, None)?),
         "load" => print_load(rt, base.as_slice(), first, second),
         "look" => ask_base(rt, base.as_slice(), number, Question::Look(first)),
         "next" => ask_base(rt, base.as_slice(), number, Question::Next(first, second)),

@@ -1,16 +1,15 @@
-// Lists what the current folder holds: the tree of the manifest `base.mtree`. A refusal is one line
+// Lists what the current folder holds: the layer `top.lay` on the manifest `base.mtree`. A refusal is one line
 // on standard output and ends the program with status 1; what fails outside is told on standard error.
 
 #![tactic(auto)]
 
-use anyhow::ensure;
 use manifests::reader::MOST_BYTES;
-use reports::report::report_manifest;
+use reports::report::report_pile;
 use std::fs::File;
 use std::io::{self, ErrorKind, Read, Write};
 use std::process::ExitCode;
 
-// One byte more than a manifest may have, so that a longer file is seen to be too long.
+// One byte more than a manifest may have, so that a longer file is seen to be too long. Every layer fits too.
 const MOST_READ: u64 = MOST_BYTES as u64 + 1;
 
 // The bytes of a file, as far as they are read; none, where there is no such file.
@@ -26,12 +25,9 @@ fn read_file(rt: &HostRuntime, name: &str) -> io::Result<Option<Vec<u8>>> {
 
 fn main(rt: HostRuntime) -> anyhow::Result<ExitCode> {
     let base = read_file(&rt, "base.mtree")?.unwrap_or_else(|| Vec::new(rt.alloc()));
-    match report_manifest(rt.alloc(), base.as_slice())? {
+    let top = read_file(&rt, "top.lay")?;
+    match report_pile(rt.alloc(), base.as_slice(), top.as_deref())? {
         Ok(listing) => {
-            ensure!(
-                read_file(&rt, "top.lay")?.is_none(),
-                "top.lay: layers are not read yet"
-            );
             rt.stdout().write_all(listing.as_slice())?;
             Ok(ExitCode::SUCCESS)
         }

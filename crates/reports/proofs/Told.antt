@@ -1,5 +1,5 @@
 -- What the steps of a report tell of it. Assumes nothing.
-use Rattle.std.proofs.Common.{◌≡◌, ℕ, ◌-◌, ◌<◌, ◌≤◌, Bool, true, false, cond, ltb, List, ◌++◌, length, take, drop, IfOk, Ok, Err, Result, String, string_bytes, sym, refl, ap, ◌∙◌, subst, arith}
+use Rattle.std.proofs.Common.{◌≡◌, ℕ, ◌<◌, ◌≤◌, Bool, true, false, cond, ltb, List, ◌++◌, length, take, drop, IfOk, Ok, Err, Option, Result, String, string_bytes, sym, refl, ap, ◌∙◌, subst}
 use Rattle.std.specs.Global.{Global}
 use Rattle.std.specs.declared.alloc.AllocError.{AllocError}
 use Rattle.std.proofs.lemmas.List.{take_at, length-map}
@@ -11,13 +11,16 @@ use Rattle.trees.specs.declared.fault.Fault.{Fault}
 use Rattle.trees.specs.declared.fault.Fault.TheVariants.{ShortBuffer}
 use Rattle.trees.specs.Entries.{Row}
 use Rattle.listing.specs.Lines.{listing}
+use Rattle.marks.specs.Marks.{MarkRow, merged}
+use Rattle.layer_fields.specs.declared.fault.LayerFault.{LayerFault}
 use Rattle.manifests.specs.declared.fault.ManifestFault.{ManifestFault}
 use Rattle.manifests.specs.Manifests.{indexed}
 use Rattle.base.specs.Loads.{Refused}
 use Rattle.manifests.proofs.Limits.{index_then_load}
+use Rattle.reports.specs.declared.refusal.Reason.{Reason}
 use Rattle.reports.specs.declared.refusal.Reason.TheVariants.{Tree}
-use Rattle.reports.specs.Refusals.{refusal}
-use Rattle.reports.specs.Reports.{list_name, Report, Lists, Tells, Reports}
+use Rattle.reports.specs.Refusals.{list_name, subject, refusal}
+use Rattle.reports.specs.Reports.{Report, marks_in, Lists, Refuses, TellsLaid, Tells, Reports}
 
 -- ---- a listing: `short` is the test that refuses the buffer
 
@@ -42,12 +45,23 @@ unlisted rows room f said many answer is =
     let no = denied (ltb room (length (listing rows))) f (length (listing rows)) answer in
     (subst (λ (n : ℕ). n < length (listing rows)) many (ltb-true room (length (listing rows)) no.0), is ∙ ap (λ (g : Fault). refusal list_name (Tree g)) no.1)
 
--- ---- a manifest, whose tree has the rows `held`
+-- ---- a pile, whose base has the rows `held` and whose layer has the marks m
 
-pub listed-text : (base : List ℕ) (given : ℕ) (held : List Row) (r : Result Report AllocError) → given ≡ 1024 → indexed given base ≡ Ok held → IfOk r (λ o. Lists held o) → IfOk r (λ o. Reports base o)
-listed-text base given held r many is told =
+pub listed-pile : (base : List ℕ) (top : Option (List ℕ)) (given : ℕ) (held : List Row) (m : List MarkRow) (r : Result Report AllocError) → given ≡ 1024 → indexed given base ≡ Ok held → marks_in top ≡ Ok m → IfOk r (λ o. Lists (merged m held) o) → IfOk r (λ o. Reports base top o)
+listed-pile base top given held m r many is laid told =
     let at : indexed 1024 base ≡ Ok held = ap (λ (n : ℕ). indexed n base) (sym many) ∙ is in
-    subst (λ (t : Result (List Row) ManifestFault). IfOk r (λ o. Tells t o)) (sym at) told
+    subst (λ (t : Result (List Row) ManifestFault). IfOk r (λ o. Tells t top o)) (sym at) (subst (λ (t : Result (List MarkRow) LayerFault). IfOk r (λ o. TellsLaid held t o)) (sym laid) told)
+
+-- the line of what refuses it
+pub refused-pile : (base : List ℕ) (top : Option (List ℕ)) (given : ℕ) (why : Reason) (said : String Global) → given ≡ 1024 → Refuses (indexed given base) (marks_in top) why → string_bytes said ≡ refusal (subject why) why → Reports base top (Err said)
+refused-pile base top given why said many denies is = go (indexed 1024 base) (subst (λ (n : ℕ). Refuses (indexed n base) (marks_in top) why) many denies) where
+  laid : (rows : List Row) (l : Result (List MarkRow) LayerFault) → Refuses (Ok rows) l why → TellsLaid rows l (Err said)
+  laid rows (Ok m) d = absurd d
+  laid rows (Err f) d = is ∙ ap (λ (w : Reason). refusal (subject w) w) d
+
+  go : (t : Result (List Row) ManifestFault) → Refuses t (marks_in top) why → Tells t top (Err said)
+  go (Err f) d = is ∙ ap (λ (w : Reason). refusal (subject w) w) d
+  go (Ok rows) d = laid rows (marks_in top) d
 
 -- the rows that the index has just written are not refused
 pub loads : (base : List ℕ) (given : ℕ) (rows part : List (Stored Entry)) (f : ManifestFault) → indexed given base ≡ Ok (rows_of rows) → part ≡ rows → Refused (rows_of part) (indexed (length part) base) f → ⊥

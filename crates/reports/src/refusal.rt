@@ -1,18 +1,50 @@
 // The one line that a refusal prints.
 ghost use Rattle.std.specs.Prelude.{◌≡◌, IfOk, Some, string_bytes};
-ghost use Rattle.reports.specs.Refusals.{reason_fields, refusal as refusal_of};
+ghost use Rattle.reports.specs.declared.refusal.Reason.TheVariants.{Manifest as OfManifest, Layer as OfLayer};
+ghost use Rattle.reports.specs.Refusals.{reason_fields, subject, refusal as refusal_of};
 
+use layer_fields::fault::LayerFault;
 use manifests::fault::ManifestFault;
 use std::alloc::{AllocError, Global};
 use std::error::Error;
 use std::fmt;
 use trees::fault::Fault;
 
-// Every kind of fault that a program may have to print. No `From`: at its one call each kind names itself.
+// Every kind of fault that a program may have to print.
 #[derive(Clone, Copy, PartialEq, Eq, Debug)]
 pub enum Reason {
     Tree(Fault),
     Manifest(ManifestFault),
+    Layer(LayerFault),
+}
+
+impl From<ManifestFault> for Reason {
+    ghost from_gives = { λ e r. r ≡ OfManifest e };
+
+    fn from(fault: ManifestFault) -> Reason {
+        Reason::Manifest(fault)
+    }
+}
+
+impl From<LayerFault> for Reason {
+    ghost from_gives = { λ e r. r ≡ OfLayer e };
+
+    fn from(fault: LayerFault) -> Reason {
+        Reason::Layer(fault)
+    }
+}
+
+impl Reason {
+    // What of a folder is refused for that reason.
+    pub fn subject(self) -> &'static str
+        ensures { result.now ≡ subject self }
+    {
+        match self {
+            Reason::Tree(_) => "list",
+            Reason::Manifest(_) => "base.mtree",
+            Reason::Layer(_) => "top.lay",
+        }
+    }
 }
 
 impl fmt::Display for Reason {
@@ -22,6 +54,7 @@ impl fmt::Display for Reason {
         match self {
             Reason::Tree(fault) => write!(f, "{fault}"),
             Reason::Manifest(fault) => write!(f, "{fault}"),
+            Reason::Layer(fault) => write!(f, "{fault}"),
         }
     }
 }

@@ -1,16 +1,22 @@
 // The listing of what a folder holds, or why there is none.
 ghost use Rattle.std.specs.Prelude.{◌≡◌, length, Ok, Err, IfOk, MatchResult};
+ghost use Rattle.std.specs.Option.{option_map};
 ghost use Rattle.rows.specs.Sorts.{kept};
+ghost use Rattle.layers.specs.Layers.{marks_of};
 ghost use Rattle.manifests.specs.Manifests.{indexed};
-ghost use Rattle.reports.specs.Reports.{Lists, Reports};
+ghost use Rattle.reports.specs.Reports.{Lists, marks_in, Refuses, Reports};
 
 use crate::refusal::{Reason, refusal};
 use base::Manifest;
+use layer_fields::fault::LayerFault;
+use layer_files::read::read;
+use layers::layer::Layer;
 use listing::list;
 use manifests::fault::ManifestFault;
 use manifests::index::{blank_row, index};
 use manifests::reader::{MOST_BYTES, MOST_ROWS};
 use rows::row::Row;
+use sessions::session::{Sealed, Session};
 use std::alloc::{AllocError, Global};
 use trees::entry::Entry;
 use trees::tree::Tree;
@@ -46,13 +52,37 @@ pub fn manifest_tree<'a>(
     Ok(tree)
 }
 
-// The listing of a manifest's text.
-pub fn report_manifest(heap: Global, base: &[u8]) -> Result<Report, AllocError>
-    ensures { IfOk result (λ o. Reports base.now o) }
+// The layer of a file; where there is none, one without rows.
+fn top_layer(file: Option<&[u8]>) -> Result<Layer, LayerFault>
+    ensures { MatchResult result (λ l. marks_in (option_map (λ t. t.now) file.entry) ≡ Ok (marks_of l)) (λ f. marks_in (option_map (λ t. t.now) file.entry) ≡ Err f) }
+{
+    let mut layer = Layer::new();
+    if let Some(bytes) = file {
+        read(bytes, &mut layer)?;
+    }
+    Ok(layer)
+}
+
+// The pile of a folder's files: the layer `top`, where there is one, on the manifest `base`.
+fn pile<'a>(
+    base: &[u8],
+    top: Option<&[u8]>,
+    rows: &'a mut [Row<Entry>],
+) -> Result<Sealed<Manifest<'a>>, Reason>
+    ensures { MatchResult result (λ s. (indexed (length rows.old) base.now ≡ Ok (kept s.session.lower.rows)) × (marks_in (option_map (λ t. t.now) top.entry) ≡ Ok (marks_of s.session.layer))) (λ r. Refuses (indexed (length rows.old) base.now) (marks_in (option_map (λ t. t.now) top.entry)) r) }
+{
+    let tree = manifest_tree(base, rows)?;
+    let layer = top_layer(top)?;
+    Ok(Session::lay(layer, tree).seal())
+}
+
+// The listing of what a folder holds.
+pub fn report_pile(heap: Global, base: &[u8], top: Option<&[u8]>) -> Result<Report, AllocError>
+    ensures { IfOk result (λ o. Reports base.now (option_map (λ t. t.now) top.entry) o) }
 {
     let mut rows = vec![in heap; blank_row(); MOST_ROWS]?;
-    match manifest_tree(base, rows.as_mut_slice()) {
-        Ok(tree) => report_tree(heap, &tree),
-        Err(fault) => Ok(Err(refusal(heap, "base.mtree", Reason::Manifest(fault))?)),
+    match pile(base, top, rows.as_mut_slice()) {
+        Ok(pile) => report_tree(heap, &pile),
+        Err(reason) => Ok(Err(refusal(heap, reason.subject(), reason)?)),
     }
 }
