@@ -1,28 +1,18 @@
-// Checks by tables: what becomes of a manifest, its listing and its tree.
+// Examples of what becomes of a manifest, its listing and its tree, at every fault and every limit.
 
 #![tactic(auto)]
 
 #[cfg(test)]
-mod bytes;
-#[cfg(test)]
-mod headers;
-#[cfg(test)]
-mod indexing;
-#[cfg(test)]
-mod keywords;
-#[cfg(test)]
-mod kit;
+mod answers;
 #[cfg(test)]
 mod limits;
-#[cfg(test)]
-mod lines;
 #[cfg(test)]
 mod loads;
 #[cfg(test)]
 mod outcomes;
 #[cfg(test)]
-mod path_words;
-#[cfg(test)]
 mod refusals;
 #[cfg(test)]
 mod rooms;
+#[cfg(test)]
+mod texts;

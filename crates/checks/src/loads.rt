@@ -1,30 +1,15 @@
-// Rows that are not the text's.
-use crate::kit::KIT;
-use crate::outcomes::{reported, told};
+// Rows that are not the text's: what a load says of them, and the tree afterwards.
+use crate::outcomes::{HEAD, KIT};
 use base::Manifest;
+use manifests::fault::ManifestFault;
 use manifests::index::{blank_row, index};
 use paths::Path;
-use reports::report::report_tree;
-use rows::row::Row;
-use std::alloc::Global;
 use std::process::Abort;
 use std::test::Fail;
 use trees::entry::{DirMeta, Entry, FileMeta};
-
-// What a case does to the rows. An enum, no closures: the cases stand in a constant.
-#[derive(Clone, Copy)]
-enum Change {
-    Keep,
-    // A blank row behind the others.
-    More,
-    // The last row once more.
-    Twice,
-    // So many rows from the front.
-    Cut(usize),
-    Swap(usize, usize),
-    Entry(usize, Entry),
-    Path(usize, &'static str),
-}
+use trees::fault::Fault;
+use trees::tree::Tree;
+use words::fault::Cause;
 
 const COIN: FileMeta = FileMeta {
     mode: 0o644,
@@ -32,131 +17,138 @@ const COIN: FileMeta = FileMeta {
     content: 0xa1,
 };
 
-// What is done to the kit's rows, and what a load then says.
-const CHANGES: [(Change, &str); 19] = [
-    (Change::Keep, "loaded"),
-    (
-        Change::Entry(1, Entry::Dir(DirMeta { mode: 0o755 })),
-        "loaded",
-    ),
-    (Change::Entry(2, Entry::File(COIN)), "loaded"),
-    (Change::Path(2, "etc/coin"), "loaded"),
-    (Change::Cut(5), "loaded"),
-    (Change::More, "m 0 37"),
-    (Change::Twice, "m 0 37"),
-    (Change::Swap(1, 2), "m 0 37"),
-    (Change::Swap(3, 4), "m 0 37"),
-    (
-        Change::Entry(0, Entry::Dir(DirMeta { mode: 0o700 })),
-        "m 0 37",
-    ),
-    (
-        Change::Entry(
-            2,
-            Entry::File(FileMeta {
-                mode: 0o645,
-                ..COIN
-            }),
-        ),
-        "m 0 37",
-    ),
-    (
-        Change::Entry(2, Entry::File(FileMeta { size: 13, ..COIN })),
-        "m 0 37",
-    ),
-    (
-        Change::Entry(
-            2,
-            Entry::File(FileMeta {
-                content: 0xa2,
-                ..COIN
-            }),
-        ),
-        "m 0 37",
-    ),
-    (
-        Change::Entry(2, Entry::Dir(DirMeta { mode: 0o644 })),
-        "m 0 37",
-    ),
-    (Change::Path(2, "etc/coim"), "m 0 37"),
-    (Change::Path(4, "etc/trays/t2"), "m 0 37"),
-    (Change::Cut(4), "m 148 36"),
-    (Change::Cut(1), "m 28 36"),
-    (Change::Cut(0), "m 7 36"),
-];
+const OTHER: Result<(), ManifestFault> = Err(ManifestFault {
+    at: 0,
+    cause: Cause::OtherRows,
+});
 
-fn kit_rows(heap: Global) -> Result<Vec<Row<Entry>>, Fail> {
-    let mut rows = vec![in heap; blank_row(); 1024]?;
-    let count = index(KIT.as_bytes(), rows.as_mut_slice())?;
-    rows.truncate(count);
-    Ok(rows)
+// A row put in by hand among the kit's five and a blank one, how many rows are loaded, and what is said.
+struct Case {
+    at: usize,
+    path: &'static str,
+    value: Entry,
+    rows: usize,
+    said: Result<(), ManifestFault>,
 }
 
-fn change_rows(rt: &impl Abort, rows: &mut Vec<Row<Entry>>, change: Change) -> Result<(), Fail> {
-    match change {
-        Change::Keep => {}
-        Change::More => rows.push(blank_row())?,
-        Change::Twice => {
-            let last = rows.last().copied().ok_or("no row")?;
-            rows.push(last)?;
-        }
-        Change::Cut(n) => rows.truncate(n),
-        Change::Swap(a, b) => {
-            assert!(rt; a < rows.len() && b < rows.len());
-            rows.swap(a, b);
-        }
-        Change::Entry(at, entry) => rows.get_mut(at).ok_or("no such row")?.value = entry,
-        Change::Path(at, path) => {
-            let path = Path::parse(path.as_bytes())?;
-            rows.get_mut(at).ok_or("no such row")?.path = path;
-        }
+const CASES: [Case; 11] = [
+    Case {
+        at: 2,
+        path: "etc/coin",
+        value: Entry::File(COIN),
+        rows: 5,
+        said: Ok(()),
+    },
+    Case {
+        at: 1,
+        path: "etc",
+        value: Entry::Dir(DirMeta { mode: 0o755 }),
+        rows: 5,
+        said: Ok(()),
+    },
+    Case {
+        at: 2,
+        path: "etc/coin",
+        value: Entry::File(COIN),
+        rows: 6,
+        said: OTHER,
+    },
+    Case {
+        at: 2,
+        path: "etc/coin",
+        value: Entry::File(COIN),
+        rows: 4,
+        said: Err(ManifestFault {
+            at: 148,
+            cause: Cause::TooMany,
+        }),
+    },
+    Case {
+        at: 2,
+        path: "etc/coin",
+        value: Entry::File(COIN),
+        rows: 0,
+        said: Err(ManifestFault {
+            at: 7,
+            cause: Cause::TooMany,
+        }),
+    },
+    Case {
+        at: 2,
+        path: "etc/coim",
+        value: Entry::File(COIN),
+        rows: 5,
+        said: OTHER,
+    },
+    Case {
+        at: 2,
+        path: "etc/coin",
+        value: Entry::File(FileMeta {
+            mode: 0o645,
+            ..COIN
+        }),
+        rows: 5,
+        said: OTHER,
+    },
+    Case {
+        at: 2,
+        path: "etc/coin",
+        value: Entry::File(FileMeta { size: 13, ..COIN }),
+        rows: 5,
+        said: OTHER,
+    },
+    Case {
+        at: 2,
+        path: "etc/coin",
+        value: Entry::File(FileMeta {
+            content: 0xa2,
+            ..COIN
+        }),
+        rows: 5,
+        said: OTHER,
+    },
+    Case {
+        at: 2,
+        path: "etc/coin",
+        value: Entry::Dir(DirMeta { mode: 0o644 }),
+        rows: 5,
+        said: OTHER,
+    },
+    Case {
+        at: 0,
+        path: "",
+        value: Entry::Dir(DirMeta { mode: 0o700 }),
+        rows: 5,
+        said: OTHER,
+    },
+];
+
+// Checks what is said when a case is loaded into a tree that holds a root alone, and the tree afterwards.
+fn check_load(rt: &impl Abort, case: &Case) -> Result<(), Fail> {
+    let mut rows = [blank_row(); 6];
+    index(KIT.as_bytes(), &mut rows)?;
+    let root = [rows[0]];
+    if let Some(row) = rows.get_mut(case.at) {
+        row.path = Path::parse(case.path.as_bytes())?;
+        row.value = case.value;
     }
+    let mut tree = Manifest::empty();
+    tree.load(HEAD.as_bytes(), &root)?;
+    let rows = &rows[..case.rows.min(6)];
+    assert_eq!(rt; tree.load(KIT.as_bytes(), rows), case.said);
+    let coin = if case.said.is_ok() {
+        Ok(Entry::File(COIN))
+    } else {
+        Err(Fault::Missing(1))
+    };
+    assert!(rt; tree.look(b"etc/coin") == coin);
     Ok(())
 }
 
-// What a load says to a tree that holds the kit; a refusal leaves the tree as it was.
-fn load_said<'a>(
-    rt: &(impl Abort + AllocGlobal),
-    text: &str,
-    rows: &'a [Row<Entry>],
-    kit: &'a [Row<Entry>],
-) -> Result<String, Fail> {
-    let heap = rt.alloc();
-    let mut tree = Manifest::empty();
-    tree.load(KIT.as_bytes(), kit)?;
-    let answer = tree.load(text.as_bytes(), rows);
-    if answer.is_err() {
-        assert_eq!(rt; reported(heap, report_tree(heap, &tree)?)?.as_str(), KIT);
-    }
-    Ok(told(heap, answer.map(|()| "loaded"))?)
-}
-
-// A text that is loaded with the kit's rows, and what is said.
-const TEXTS: [(&str, &str); 6] = [
-    ("#mtree\n", "m 0 37"),
-    ("#mtree\n. type=dir mode=0755\n", "m 0 37"),
-    ("", "m 0 30"),
-    ("#mtree\n./a type=dir mode=0755\n", "m 7 35"),
-    ("#mtree\n. type=dir mode=0755\n./a", "m 28 31"),
-    (
-        "#mtree\n. type=dir mode=0755\n. type=dir mode=0755\n",
-        "m 28 34",
-    ),
-];
-
 #[test]
-fn other_rows(rt: HostRuntime) -> Result<(), Fail> {
-    let heap = rt.alloc();
-    let kit = kit_rows(heap)?;
-    for (case, (change, said)) in CHANGES.iter().enumerate() {
-        let mut rows = kit_rows(heap)?;
-        change_rows(&rt, &mut rows, *change)?;
-        let found = load_said(&rt, KIT, rows.as_slice(), kit.as_slice())?;
-        assert_eq!(rt; found.as_str(), *said, "{}", case);
-    }
-    for (text, said) in TEXTS {
-        let found = load_said(&rt, text, kit.as_slice(), kit.as_slice())?;
-        assert_eq!(rt; found.as_str(), said, "{}", text);
+fn loads(rt: HostRuntime) -> Result<(), Fail> {
+    for case in &CASES {
+        check_load(&rt, case)?;
     }
     Ok(())
 }

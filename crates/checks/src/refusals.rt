@@ -1,10 +1,9 @@
 // The lines that refusals print, and the report on a manifest.
-use crate::kit::KIT;
-use crate::outcomes::reported;
+use crate::outcomes::KIT;
 use manifests::fault::ManifestFault;
 use paths::PathFault;
 use reports::refusal::{Reason, refusal};
-use reports::report::report_manifest;
+use reports::report::report_pile;
 use std::test::Fail;
 use trees::fault::Fault;
 use words::fault::Cause;
@@ -40,33 +39,42 @@ const MANIFESTS: [(usize, Cause, &str); 9] = [
     (0, Cause::OtherRows, "refused base.mtree m 0 37\n"),
 ];
 
+#[test]
+fn lines_printed(rt: HostRuntime) -> Result<(), Fail> {
+    let heap = rt.alloc();
+    for (fault, line) in &TREES {
+        let printed = refusal(heap, "list", Reason::Tree(*fault))?;
+        assert_eq!(&rt; printed.as_str(), *line);
+    }
+    for (at, cause, line) in &MANIFESTS {
+        let fault = ManifestFault {
+            at: *at,
+            cause: *cause,
+        };
+        let printed = refusal(heap, "base.mtree", Reason::Manifest(fault))?;
+        assert_eq!(&rt; printed.as_str(), *line);
+    }
+    Ok(())
+}
+
 // A text, and what is reported of it.
-const TEXTS: [(&str, &str); 4] = [
+const TEXTS: [(&str, &str); 3] = [
     ("", "refused base.mtree m 0 30\n"),
     (
-        "#mtree\n. type=dir mode=0755\n./a//b type=dir mode=0755\n",
-        "refused base.mtree m 28 p 2 1\n",
+        "#mtree\n./a//b type=dir mode=0755\n",
+        "refused base.mtree m 7 p 2 1\n",
     ),
-    ("#mtree\n", "#mtree\n"),
     (KIT, KIT),
 ];
 
 #[test]
-fn lines_printed(rt: HostRuntime) -> Result<(), Fail> {
+fn reports(rt: HostRuntime) -> Result<(), Fail> {
     let heap = rt.alloc();
-    for (fault, line) in TREES {
-        assert_eq!(rt; refusal(heap, "list", Reason::Tree(fault))?.as_str(), line);
-    }
-    for (at, cause, line) in MANIFESTS {
-        let fault = ManifestFault { at, cause };
-        assert_eq!(rt;
-            refusal(heap, "base.mtree", Reason::Manifest(fault))?.as_str(),
-            line
-        );
-    }
-    for (text, said) in TEXTS {
-        let report = report_manifest(heap, text.as_bytes())?;
-        assert_eq!(rt; reported(heap, report)?.as_str(), said, "{}", text);
+    for (text, said) in &TEXTS {
+        match report_pile(heap, text.as_bytes(), None)? {
+            Ok(listing) => assert_eq!(&rt; listing.as_slice(), said.as_bytes()),
+            Err(line) => assert_eq!(&rt; line.as_str(), *said),
+        }
     }
     Ok(())
 }

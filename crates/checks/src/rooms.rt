@@ -1,56 +1,42 @@
 // Buffers for a listing: one too short is left alone, and of one too long the rest is.
-use crate::kit::KIT;
-use crate::outcomes::{HEAD, told};
+use crate::outcomes::KIT;
 use listing::list;
 use manifests::index::blank_row;
 use reports::report::manifest_tree;
-use std::alloc::{AllocError, Global};
+use std::process::Abort;
 use std::test::Fail;
+use trees::fault::Fault;
 use trees::tree::Tree;
 
-// A manifest, the room for its listing, and what is said.
-const ROOMS: [(&str, usize, &str); 14] = [
-    ("#mtree\n", 0, "t 21 0"),
-    ("#mtree\n", 6, "t 21 0"),
-    ("#mtree\n", 7, "7"),
-    ("#mtree\n", 8, "7"),
-    (HEAD, 7, "t 21 0"),
-    (HEAD, 27, "t 21 0"),
-    (HEAD, 28, "28"),
-    (HEAD, 29, "28"),
-    (KIT, 0, "t 21 0"),
-    (KIT, 148, "t 21 0"),
-    (KIT, 214, "t 21 0"),
-    (KIT, 215, "215"),
-    (KIT, 216, "215"),
-    (KIT, 300, "215"),
+// The room for the kit's listing, what is said, and what is written.
+const ROOMS: [(usize, Result<usize, Fault>, &str); 4] = [
+    (0, Err(Fault::ShortBuffer), ""),
+    (214, Err(Fault::ShortBuffer), ""),
+    (215, Ok(215), KIT),
+    (216, Ok(215), KIT),
 ];
 
-// What `list` answers, and the whole buffer after it.
-fn listed_in<T: Tree>(heap: Global, tree: &T, room: usize) -> Result<String, AllocError> {
-    let mut buffer = vec![in heap; b'@'; room]?;
-    let said = told(heap, list(tree, buffer.as_mut_slice()))?;
-    let left = String::from_utf8_lossy(heap, buffer.as_slice())?;
-    format!(in heap; "{said} {left}")
-}
-
-fn wanted(heap: Global, text: &str, room: usize, said: &str) -> Result<String, AllocError> {
-    let written = if said.starts_with('t') { "" } else { text };
-    let rest = "@".repeat(heap, room.saturating_sub(written.len()))?;
-    format!(in heap; "{said} {written}{rest}")
+// Checks what `list` answers, and the whole buffer after it, of 216 bytes at most.
+fn check_rooms<T: Tree>(rt: &impl Abort, tree: &T) {
+    for (room, said, written) in &ROOMS {
+        let mut buffer = [b'@'; 216];
+        let buffer = &mut buffer[..(*room).min(216)];
+        assert_eq!(rt; list(tree, buffer), *said, "{}", room);
+        let rest = [b'@'; 216];
+        assert_eq!(rt;
+            buffer.strip_prefix(written.as_bytes()),
+            rest.get(written.len()..*room),
+            "{}",
+            room
+        );
+    }
 }
 
 #[test]
 fn rooms(rt: HostRuntime) -> Result<(), Fail> {
-    let heap = rt.alloc();
-    for (text, room, said) in ROOMS {
-        let mut rows = vec![in heap; blank_row(); 1024]?;
-        let tree = manifest_tree(text.as_bytes(), rows.as_mut_slice())?;
-        let expected = wanted(heap, text, room, said)?;
-        let found = listed_in(heap, &tree, room)?;
-        assert_eq!(rt; found.as_str(), expected.as_str(), "{}", room);
-        let found = listed_in(heap, &&tree, room)?;
-        assert_eq!(rt; found.as_str(), expected.as_str(), "{}", room);
-    }
+    let mut rows = [blank_row(); 5];
+    let tree = manifest_tree(KIT.as_bytes(), &mut rows)?;
+    check_rooms(&rt, &tree);
+    check_rooms(&rt, &&tree);
     Ok(())
 }
