@@ -1,6 +1,6 @@
 -- What lies below a path that has no child: nothing. Assumes nothing.
 use Rattle.std.proofs.Common.{◌≡◌, ℕ, Bool, true, false, cond, not, leb, List, [], ◌∷◌, ◌++◌, length, is_some, Some, None, Option, sym, refl, ap, ◌∙◌}
-use Rattle.std.proofs.lemmas.Bool.{true≢false, both_ways, and_parts, and_from, not-true, false_from_ne_true}
+use Rattle.std.proofs.lemmas.Bool.{both_ways, and_parts, not-true}
 use Rattle.std.specs.Option.{option_map}
 use Rattle.std.specs.Ordering.{is_lt}
 use Rattle.paths.specs.Names.{join, fault_in}
@@ -13,11 +13,12 @@ use Rattle.rows.proofs.Least.{child_passes}
 use Rattle.rows.proofs.Firsts.{first-none, there, at-holds, child-there}
 use Rattle.rows.proofs.Built.{same_rows, at_set, ascending_set}
 use Rattle.rows.proofs.Changed.{at-without, ascending-only}
-use Rattle.rows.proofs.Unders.{strictly, same-under, same_swap}
+use Rattle.rows.proofs.Unders.{strictly, not_at, not_above}
 use Rattle.trees.specs.declared.entry.Entry.{Entry}
 use Rattle.trees.specs.Entries.{Row, closed, fine}
 use Rattle.trees.proofs.Closed.{is-fine, closed-rooted}
 use Rattle.edits.specs.Edits.{has_child}
+use Rattle.paths.proofs.Granted.{is_none, mapped_none}
 
 -- ---- good paths
 
@@ -30,16 +31,12 @@ child-named p n f =
 
 -- ---- no child
 
-no_first : (o : Option Row) → is_some (option_map (λ r. r.0) o) ≡ false → o ≡ None
-no_first None h = refl
-no_first (Some r) h = absurd (true≢false h)
-
 module _ (rs : List Row) (c : closed rs rs ≡ true) (p : Names) (none : has_child rs p ≡ false) where
   childless : (n : List ℕ) → has rs (p ++ n ∷ []) ≡ true → ⊥
   childless n h =
       let q = p ++ n ∷ [] in
       let d = there rs q h in
-      let off = first-none (is_child p []) rs (no_first (first (is_child p []) rs) none) (q, d.0) (at-holds rs q d.0 d.1) in
+      let off = first-none (is_child p []) rs (mapped_none (λ r. r.0) (first (is_child p []) rs) (is_none (option_map (λ r. r.0) (first (is_child p []) rs)) none)) (q, d.0) (at-holds rs q d.0 d.1) in
       both_ways (is_child p [] (q, d.0)) off (child_passes p [] n d.0 (child-named p n (is-fine rs c q h)))
 
   -- no row lies strictly below
@@ -53,7 +50,7 @@ module _ (rs : List Row) (c : closed rs rs ≡ true) (p : Names) (none : has_chi
 
   -- so what another path has below this one, it does not have
   pub apart_none : (q : Names) → under p q ≡ true → same q p ≡ false → at rs q ≡ None
-  apart_none q u s = below_none q u (false_from_ne_true (under q p) (λ e. both_ways (same p q) (same_swap p q ∙ s) (same-under p q ∙ and_from (under p q) (under q p) u e)))
+  apart_none q u s = below_none q u (not_above q p s u)
 
   -- taking out the rows under the path takes out its own
   pub set_none : ascending rs ≡ true → set_at rs p None ≡ without p rs
@@ -63,5 +60,5 @@ module _ (rs : List Row) (c : closed rs rs ≡ true) (p : Names) (none : has_chi
       go : (u : Bool) → under p q ≡ u → (s : Bool) → same q p ≡ s → cond s None (at rs q) ≡ cond u None (at rs q)
       go true e true f = refl
       go true e false f = apart_none q e f
-      go false e true f = absurd (both_ways (under p q) e (and_parts (under p q) (under q p) (sym (same-under p q) ∙ (same_swap p q ∙ f))).0)
+      go false e true f = absurd (both_ways (same q p) (not_at q p e) f)
       go false e false f = refl

@@ -9,7 +9,7 @@ use Rattle.rows.proofs.Firsts.{there}
 use Rattle.rows.proofs.Unders.{parent_above}
 use Rattle.trees.specs.declared.entry.Entry.{Entry}
 use Rattle.trees.specs.declared.entry.Entry.TheVariants.{File, Dir}
-use Rattle.trees.specs.Entries.{Row, is_dir, in_range, fine, closed}
+use Rattle.trees.specs.Entries.{Row, is_dir, in_range, fine, closed, is_tree}
 use Rattle.trees.proofs.Closed.{closed_by, is-sound, up-dir}
 use Rattle.trees.proofs.Grown.{Sound}
 use Rattle.edits.specs.declared.action.Action.{Action}
@@ -47,7 +47,7 @@ module _ (rs : List Row) (up : ascending rs ≡ true) (c : closed rs rs ≡ true
         (λ n. ap is_dir (cond-false (same q p) (Some e) (at rs q) n) ∙ h)
         (told q p)
 
-    pub set_some-closed : fine p ≡ true → in_range e ≡ true → is_dir (at rs (parent p)) ≡ true → closed (set_at rs p (Some e)) (set_at rs p (Some e)) ≡ true
+    set_some-closed : fine p ≡ true → in_range e ≡ true → is_dir (at rs (parent p)) ≡ true → closed (set_at rs p (Some e)) (set_at rs p (Some e)) ≡ true
     set_some-closed f r d = closed_by (set_at rs p (Some e)) (ascending_set rs p (Some e) up) (λ q v h. ⊎_elim (λ y. here q v y.0 (sym (cond-true (same q p) (Some e) (at rs q) y.1) ∙ (sym (at_set rs p (Some e) q) ∙ h))) (λ n. other q v (sym (cond-false (same q p) (Some e) (at rs q) n) ∙ (sym (at_set rs p (Some e) q) ∙ h))) (told q p)) where
       here : (q : Names) (v : Entry) → q ≡ p → Some e ≡ Some v → Sound in_range is_dir (set_at rs p (Some e)) (q, v)
       here q v s h =
@@ -60,7 +60,7 @@ module _ (rs : List Row) (up : ascending rs ≡ true) (c : closed rs rs ≡ true
           record { good = s.good; ranged = s.ranged; under = dir_stays (parent q) s.under }
 
   -- nothing in place of a file or of a directory without a child
-  pub set_none-closed : has_child rs p ≡ false → closed (set_at rs p None) (set_at rs p None) ≡ true
+  set_none-closed : has_child rs p ≡ false → closed (set_at rs p None) (set_at rs p None) ≡ true
   set_none-closed none = closed_by (set_at rs p None) (ascending_set rs p None up) (λ q v h. each q v (same q p) refl (sym (at_set rs p None q) ∙ h)) where
     each : (q : Names) (v : Entry) (t : Bool) → same q p ≡ t → cond t None (at rs q) ≡ Some v → Sound in_range is_dir (set_at rs p None) (q, v)
     each q v true e h = absurd (true≢false (let z : ◌≡◌ {A = Bool} true false = cc in z))
@@ -91,9 +91,9 @@ module _ (rs : List Row) (room need : ℕ) (p : Names) (up : ascending rs ≡ tr
   after-closed Remove h = set_none-closed rs up c p (granted-remove rs room need p h).2
 
   -- the entries after a granted edit
-  pub edited-closed : (a : Action) → refused_at rs room need p a ≡ None → (ascending (edited rs p a) && closed (edited rs p a) (edited rs p a)) ≡ true
+  pub edited_tree : (a : Action) → refused_at rs room need p a ≡ None → is_tree (edited rs p a) ≡ true
   unfolding edited
-  edited-closed a h =
+  edited_tree a h =
       let new = set_at rs p (new_entry a (at rs p)) in
       and_from (ascending new) (closed new new) (ascending_set rs p (new_entry a (at rs p)) up) (after-closed a h)
 

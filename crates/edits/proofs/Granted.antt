@@ -14,7 +14,7 @@ use Rattle.edits.specs.declared.action.Action.TheVariants.{Put, Mkdir, Chmod, Re
 use Rattle.edits.specs.Edits.{refuse_if, putable, value_fault, is_root, root_fault, parent_fault, absent_fault, has_child, place_fault, refused_at}
 
 -- neither of two checks refuses
-pub neither : (a b : Option Fault) → option_or a b ≡ None → (a ≡ None) × (b ≡ None)
+neither : (a b : Option Fault) → option_or a b ≡ None → (a ≡ None) × (b ≡ None)
 neither None b h = (refl, h)
 neither (Some f) b h = (h, let z : ◌≡◌ {A = Bool} true false = cc in absurd (true≢false z))
 

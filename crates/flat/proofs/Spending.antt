@@ -4,7 +4,7 @@ use Rattle.std.proofs.lemmas.Bool.{cond-true}
 use Rattle.rows.specs.Maps.{Names, under, at, has, ascending}
 use Rattle.rows.specs.Builds.{set_at}
 use Rattle.trees.specs.declared.entry.Entry.{Entry}
-use Rattle.trees.specs.Entries.{Row, fine, closed}
+use Rattle.trees.specs.Entries.{Row, fine, closed, is_tree}
 use Rattle.trees.proofs.Closed.{tree_parts}
 use Rattle.edits.specs.declared.action.Action.{Action}
 use Rattle.paths.specs.declared.Path.{Path}
@@ -18,7 +18,7 @@ use Rattle.trees.proofs.Fine.{path_fine}
 use Rattle.edits.proofs.Belows.{set_none}
 use Rattle.edits.proofs.Outcomes.{answered-some, bad_refusal, good-refusal, refused-outcome, granted-outcome}
 use Rattle.edits.proofs.Edited.{edited-is, edited-there, emptied}
-use Rattle.flat.specs.Rooms.{is_tree, room_of, need_at}
+use Rattle.flat.specs.Rooms.{room_of, need_at}
 use Rattle.rows.proofs.Sets.{length_set, length-only}
 
 module _ (rs : List Row) (p : Names) (t : is_tree rs ≡ true) (f : fine p ≡ true) (a : Action) (h : refused_at rs (room_of rs) (need_at rs p) p a ≡ None) where
@@ -35,11 +35,11 @@ module _ (rs : List Row) (p : Names) (t : is_tree rs ≡ true) (f : fine p ≡ t
         omega arith
     go (Some e) k = let l = length_set rs p e parts.0 in omega arith
 
-  pub spends : room_of rs ≤ room_of (edited rs p a) + need_at rs p
+  spends : room_of rs ≤ room_of (edited rs p a) + need_at rs p
   spends = let l = longer in omega arith
 
   -- what was written needs nothing more
-  pub settles : removes a ≡ false → need_at (edited rs p a) p ≡ 0
+  settles : removes a ≡ false → need_at (edited rs p a) p ≡ 0
   settles r = cond-true (has (edited rs p a) p) 0 1 (edited-there rs (room_of rs) (need_at rs p) p parts.0 parts.1 f a h r)
 
 -- ---- the outcomes

@@ -2,7 +2,7 @@
 use Rattle.std.proofs.Common.{◌≡◌, ◌≤◌, Bool, true, false, cond, ◌||◌, ltb, List, length, None, refl, sym, subst, arith}
 use Rattle.rows.specs.Maps.{Names, at, ascending, has, without, rooted}
 use Rattle.rows.specs.Builds.{set_at}
-use Rattle.trees.specs.Entries.{Row, closed}
+use Rattle.trees.specs.Entries.{Row, closed, is_tree}
 use Rattle.trees.proofs.Closed.{tree_parts, closed-rooted}
 use Rattle.edits.specs.declared.action.Action.{Action}
 use Rattle.edits.specs.Edits.{has_child, refused_at, new_entry}
@@ -11,8 +11,8 @@ use Rattle.paths.specs.Paths.{names}
 use Rattle.edits.proofs.Granted.{granted-room}
 use Rattle.trees.proofs.Fine.{path_fine}
 use Rattle.edits.proofs.Belows.{set_none}
-use Rattle.edits.proofs.Edited.{edited-closed, edited-is, emptied}
-use Rattle.flat.specs.Rooms.{is_tree, room_of, need_at}
+use Rattle.edits.proofs.Edited.{edited_tree, edited-is, emptied}
+use Rattle.flat.specs.Rooms.{room_of, need_at}
 
 module _ (rs : List Row) (t : is_tree rs ≡ true) where
   parts : (ascending rs ≡ true) × (closed rs rs ≡ true)
@@ -37,7 +37,7 @@ module _ (rs : List Row) (x : Path) (a : Action) (t : is_tree rs ≡ true) (h : 
   pub whole : is_tree (set_at rs (names x) (new_entry a (at rs (names x)))) ≡ true
   whole =
       let b = tree_parts rs t in
-      subst (λ rs. is_tree rs ≡ true) (edited-is rs (names x) a) (edited-closed rs (room_of rs) (need_at rs (names x)) (names x) b.0 b.1 (path_fine x) a h)
+      subst (λ rs. is_tree rs ≡ true) (edited-is rs (names x) a) (edited_tree rs (room_of rs) (need_at rs (names x)) (names x) b.0 b.1 (path_fine x) a h)
 
   pub enough : need_at rs (names x) ≤ room_of rs
   enough = granted-room rs (room_of rs) (need_at rs (names x)) (names x) a h

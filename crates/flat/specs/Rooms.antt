@@ -1,11 +1,7 @@
--- What the rows of a flat tree are, and how many more there may be. Assumes nothing.
-use Rattle.std.specs.Prelude.{ℕ, ◌-◌, Bool, cond, ◌&&◌, List, length}
-use Rattle.rows.specs.Maps.{Names, has, ascending}
-use Rattle.trees.specs.Entries.{Row, closed}
-
--- they rise, and each path's parent is a directory
-abbrev pub is_tree : List Row → Bool
-is_tree rs = ascending rs && closed rs rs
+-- The room of a flat tree, and the need of a path. Assumes nothing.
+use Rattle.std.specs.Prelude.{ℕ, ◌-◌, cond, List, length}
+use Rattle.rows.specs.Maps.{Names, has}
+use Rattle.trees.specs.Entries.{Row}
 
 abbrev pub room_of : List Row → ℕ
 room_of rs = 256 - length rs

@@ -3,8 +3,9 @@ ghost use Rattle.std.specs.Prelude.{◌≡◌, ◌≤◌, true, false, Some, Non
 ghost use Rattle.paths.specs.Paths.{names};
 ghost use Rattle.rows.specs.Builds.{set_at};
 ghost use Rattle.rows.specs.Tables.{listed};
+ghost use Rattle.trees.specs.Entries.{is_tree};
 ghost use Rattle.edits.specs.Edits.{has_child, refused_at, edited};
-ghost use Rattle.flat.specs.Rooms.{is_tree, room_of, need_at};
+ghost use Rattle.flat.specs.Rooms.{room_of, need_at};
 ghost use Rattle.std.proofs.Common.{arith};
 
 use crate::{Flat, ROWS};

@@ -4,7 +4,7 @@
 
 ghost use Rattle.std.specs.Prelude.{◌≡◌, true};
 ghost use Rattle.rows.specs.Tables.{listed};
-ghost use Rattle.flat.specs.Rooms.{is_tree};
+ghost use Rattle.trees.specs.Entries.{is_tree};
 
 use rows::table::Table;
 use trees::entry::Entry;

@@ -6,14 +6,13 @@ use Rattle.std.proofs.lemmas.Nat.{be_bytes_2, be_bytes_8}
 use Rattle.std.specs.Int.{w16, w64, to_be_bytes, from_be_bytes}
 use Rattle.paths.proofs.Granted.{if_some}
 use Rattle.trees.specs.declared.entry.Entry.{Entry}
-use Rattle.trees.specs.declared.entry.Entry.TheVariants.{File, Dir}
 use Rattle.trees.proofs.Fine.{Bytes}
 use Rattle.layer_fields.specs.Fields.{Field, field_bytes, span, front_field}
 use Rattle.layer_fields.specs.Said.{only_byte, version_of, text_of, text_field, dir_of, file_of, entry_of, entry_field, is_whiteout, whiteout_field, count_of, count_field}
 
 -- ---- parts of bytes
 
-pub bytes_take : (n : ℕ) (s : List ℕ) → Bytes s → Bytes (take n s)
+bytes_take : (n : ℕ) (s : List ℕ) → Bytes s → Bytes (take n s)
 bytes_take zero s b = tt
 bytes_take (suc n) [] b = tt
 bytes_take (suc n) (x ∷ s) b = (b.0, bytes_take n s b.1)
@@ -38,10 +37,6 @@ two_below : (v : List ℕ) → length v ≡ 2 → Bytes v → from_be_bytes w16 
 two_below [] l b = absurd (omega arith)
 two_below (x ∷ []) l b = absurd (omega arith)
 two_below (x ∷ y ∷ v) l b = omega (arith, b.0, b.1.0)
-
-eight_below : (v : List ℕ) → length v ≡ 8 → Bytes v → from_be_bytes w64 v < 18446744073709551616
-eight_below (a ∷ b ∷ c ∷ d ∷ e ∷ f ∷ g ∷ h ∷ v) l k = omega (arith, k.0, k.1.0, k.1.1.0, k.1.1.1.0, k.1.1.1.1.0, k.1.1.1.1.1.0, k.1.1.1.1.1.1.0, k.1.1.1.1.1.1.1.0)
-eight_below v l k = absurd (omega arith)
 
 -- ---- a field at the front
 
@@ -138,17 +133,6 @@ entry_field_is f e b h = entry_by (λ e. f ≡ entry_field e) f e
     (λ t l. (λ i. (t i, f.1)) ∙ sym (file_back f.1 l b))
     h
 
--- its numbers fit the bytes that hold them
-abbrev pub Fitting : Entry → Type 0
-Fitting (Dir d) = d.mode < 65536
-Fitting (File f) = (f.mode < 65536) × (f.size < 18446744073709551616) × (f.content < 18446744073709551616)
-
-pub entry_fits : (f : Field) (e : Entry) → Bytes f.1 → entry_of f ≡ Some e → Fitting e
-entry_fits f e b h = entry_by Fitting f e
-    (λ t l. two_below f.1 l b)
-    (λ t l. let m = mode_bytes f.1 l b in let s = size_bytes f.1 l b in let c = content_bytes f.1 l b in (two_below _ m.0 m.1, eight_below _ s.0 s.1, eight_below _ c.0 c.1))
-    h
-
 pub whiteout_field_is : (f : Field) → is_whiteout f ≡ true → f ≡ whiteout_field
 whiteout_field_is f h =
     let p = tagged 5 0 f h in
@@ -160,9 +144,3 @@ count_field_is f n b h =
     let is : from_be_bytes w16 f.1 ≡ n = cc p.1 in
     let q = tagged 6 2 f p.0 in
     λ i. (q.0 i, (sym (two_back f.1 q.1 b) ∙ ap (to_be_bytes w16) is) i)
-
-pub count_below : (f : Field) (n : ℕ) → Bytes f.1 → count_of f ≡ Some n → n < 65536
-count_below f n b h =
-    let p = if_some (eqb f.0 6 && eqb (length f.1) 2) (Some (from_be_bytes w16 f.1)) n h in
-    let is : from_be_bytes w16 f.1 ≡ n = cc p.1 in
-    subst (λ k. k < 65536) is (two_below f.1 (tagged 6 2 f p.0).1 b)

@@ -24,7 +24,7 @@ front-back f rest h =
     cut-back f (from_be_bytes w16 (to_be_bytes w16 (length f.1))) rest (from_be_bytes-to_be_bytes_2 (length f.1) (omega arith))
 
 -- how long a field is
-pub span-length : (f : Field) → length (field_bytes f) ≡ span f
+span-length : (f : Field) → length (field_bytes f) ≡ span f
 span-length f = omega arith
 
 -- what stands behind it

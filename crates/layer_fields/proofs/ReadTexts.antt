@@ -1,16 +1,18 @@
 -- The texts that are written of whiteouts and markers read back. Assumes nothing.
 use Rattle.std.proofs.Common.{◌≡◌, ℕ, ◌+◌, ◌-◌, ◌<◌, ◌≤◌, true, false, List, [], ◌∷◌, ◌++◌, length, take, drop, is_some, Ok, sym, refl, ap, ◌∙◌, subst, append_assoc, arith}
 use Rattle.std.proofs.lemmas.List.{length-append, take_at}
-use Rattle.std.proofs.lemmas.Bool.{both_ways, or_parts, cond-true, cond-false, false_from_ne_true, leb-true}
+use Rattle.std.proofs.lemmas.Bool.{both_ways, or_parts, cond-true, cond-false, false_from_ne_true}
 use Rattle.paths.specs.Names.{join, plain, parent, last_name, same, begins, reserved, good_name, fault_in, judge}
+use Rattle.paths.specs.Steps.{map_err}
 use Rattle.paths.proofs.Joins.{Plain, split_join, join-append, fault_parts, name_parts, plain-from-fault, fault-take, parent-take}
 use Rattle.paths.proofs.Tests.{same-itself, same-exact}
 use Rattle.rows.specs.Maps.{Names}
 use Rattle.rows.proofs.Orders.{as_child, last_child}
 use Rattle.trees.specs.Entries.{fine}
 use Rattle.trees.proofs.Answering.{fine_parts}
-use Rattle.trees.proofs.Fine.{all_append, split-fine, judge-fine}
-use Rattle.layer_fields.specs.Texts.{whiteout_prefix, opaque_name, last_of, before_last, whiteout_text, marker_text, is_marker, is_whited, unwhited, whited_path, held, row_path}
+use Rattle.trees.proofs.Fine.{all_append, split-fine, judge-fine, plain-names, fine-short}
+use Rattle.layer_fields.specs.declared.fault.Cause.TheVariants.{Path}
+use Rattle.layer_fields.specs.Texts.{whiteout_prefix, opaque_name, last_of, before_last, whiteout_text, marker_text, is_marker, has_whiteout_prefix, without_prefix, whiteout_path, row_path}
 
 -- ---- a path and one name more
 
@@ -63,28 +65,22 @@ last-begun (n ∷ p) h = not-begun (last_name (n ∷ p)) (name_parts (last_name 
 -- ---- the text of a good path
 
 module _ (p : Names) (f : fine p ≡ true) where
-  plain-path : Plain p
-  plain-path = plain-from-fault 0 p (fine_parts p f).0
-
-  pub path-not-whited : is_whited (join p) ≡ false
-  path-not-whited = ap (λ q. begins whiteout_prefix (last_name q)) (split-fine p f) ∙ last-begun p (fine_parts p f).0
+  pub path-no-prefix : has_whiteout_prefix (join p) ≡ false
+  path-no-prefix = ap (λ q. begins whiteout_prefix (last_name q)) (split-fine p f) ∙ last-begun p (fine_parts p f).0
 
   pub path-no-marker : is_marker (join p) ≡ false
-  path-no-marker = not-same opaque_name (last_of (join p)) refl path-not-whited
+  path-no-marker = not-same opaque_name (last_of (join p)) refl path-no-prefix
 
   pub path-back : row_path (join p) ≡ Ok p
   path-back =
-      cond-false (is_whited (join p)) (whited_path (judge (unwhited (join p)))) (held (judge (join p))) path-not-whited ∙ ap held (judge-fine p f)
-
-  pub path-short : length (join p) ≤ 120
-  path-short = leb-true (length (join p)) 120 (fine_parts p f).1
+      cond-false (has_whiteout_prefix (join p)) (whiteout_path (judge (without_prefix (join p)))) (map_err Path (judge (join p))) path-no-prefix ∙ ap (map_err Path) (judge-fine p f)
 
   -- ---- its marker
 
   marker-plain : Plain (p ++ opaque_name ∷ [])
-  marker-plain = plain-more p opaque_name plain-path (omega arith) refl
+  marker-plain = plain-more p opaque_name (plain-names p f) (omega arith) refl
 
-  pub marker-is : is_marker (marker_text p) ≡ true
+  marker-is : is_marker (marker_text p) ≡ true
   marker-is = ap (same opaque_name) (last-is p opaque_name marker-plain) ∙ same-itself opaque_name
 
   -- no other text is the marker
@@ -93,7 +89,7 @@ module _ (p : Names) (f : fine p ≡ true) where
       false_from_ne_true (same (marker_text p) s) (λ e. both_ways (is_marker s) h (ap is_marker (same-exact (marker_text p) s e) ∙ marker-is))
 
   pub marker-short : length (marker_text p) ≤ 133
-  marker-short = omega (arith, ap length (join-head p opaque_name), length-append (head_text p) opaque_name, head-short p, path-short)
+  marker-short = omega (arith, ap length (join-head p opaque_name), length-append (head_text p) opaque_name, head-short p, fine-short p f)
 
 -- ---- the text of a whiteout
 
@@ -119,38 +115,38 @@ module _ (n : List ℕ) (r : Names) (f : fine (n ∷ r) ≡ true) where
   plain-child : Plain (up ++ last ∷ [])
   plain-child = plain-more up last plain-up last-parts.0 last-parts.2
 
-  plain-whited : Plain (up ++ (whiteout_prefix ++ last) ∷ [])
-  plain-whited = plain-more up (whiteout_prefix ++ last) plain-up (omega arith) last-parts.2
+  plain-prefixed : Plain (up ++ (whiteout_prefix ++ last) ∷ [])
+  plain-prefixed = plain-more up (whiteout_prefix ++ last) plain-up (omega arith) last-parts.2
 
   -- it is the text of a child of the parent
-  whited-is : whiteout_text whole ≡ join (up ++ (whiteout_prefix ++ last) ∷ [])
-  whited-is =
+  whiteout-joined : whiteout_text whole ≡ join (up ++ (whiteout_prefix ++ last) ∷ [])
+  whiteout-joined =
       (λ i. before_last (is-child i) ++ (whiteout_prefix ++ last_of (is-child i)))
       ∙ (λ i. before-is up last plain-child i ++ (whiteout_prefix ++ last-is up last plain-child i))
       ∙ sym (join-head up (whiteout_prefix ++ last))
 
-  whited-last : last_of (whiteout_text whole) ≡ whiteout_prefix ++ last
-  whited-last = ap last_of whited-is ∙ last-is up (whiteout_prefix ++ last) plain-whited
+  whiteout-last : last_of (whiteout_text whole) ≡ whiteout_prefix ++ last
+  whiteout-last = ap last_of whiteout-joined ∙ last-is up (whiteout_prefix ++ last) plain-prefixed
 
-  whited-before : before_last (whiteout_text whole) ≡ head_text up
-  whited-before = ap before_last whited-is ∙ before-is up (whiteout_prefix ++ last) plain-whited
+  whiteout-before : before_last (whiteout_text whole) ≡ head_text up
+  whiteout-before = ap before_last whiteout-joined ∙ before-is up (whiteout_prefix ++ last) plain-prefixed
 
-  pub whiteout-whited : is_whited (whiteout_text whole) ≡ true
-  whiteout-whited = ap (begins whiteout_prefix) whited-last
+  pub whiteout-prefixed : has_whiteout_prefix (whiteout_text whole) ≡ true
+  whiteout-prefixed = ap (begins whiteout_prefix) whiteout-last
 
   pub whiteout-no-marker : is_marker (whiteout_text whole) ≡ false
   whiteout-no-marker =
-      ap (same opaque_name) whited-last ∙ not-same (drop 4 opaque_name) last refl (not-begun last last-parts.3)
+      ap (same opaque_name) whiteout-last ∙ not-same (drop 4 opaque_name) last refl (not-begun last last-parts.3)
 
-  unwhited-back : unwhited (whiteout_text whole) ≡ join whole
-  unwhited-back = (λ i. whited-before i ++ drop 4 (whited-last i)) ∙ sym (join-head up last) ∙ sym is-child
+  without_prefix-back : without_prefix (whiteout_text whole) ≡ join whole
+  without_prefix-back = (λ i. whiteout-before i ++ drop 4 (whiteout-last i)) ∙ sym (join-head up last) ∙ sym is-child
 
   pub whiteout-back : row_path (whiteout_text whole) ≡ Ok whole
   whiteout-back =
-      cond-true (is_whited (whiteout_text whole)) (whited_path (judge (unwhited (whiteout_text whole)))) (held (judge (whiteout_text whole))) whiteout-whited
-      ∙ ap (λ s. whited_path (judge s)) unwhited-back
-      ∙ ap whited_path (judge-fine whole f)
+      cond-true (has_whiteout_prefix (whiteout_text whole)) (whiteout_path (judge (without_prefix (whiteout_text whole)))) (map_err Path (judge (whiteout_text whole))) whiteout-prefixed
+      ∙ ap (λ s. whiteout_path (judge s)) without_prefix-back
+      ∙ ap whiteout_path (judge-fine whole f)
 
   pub whiteout-short : length (whiteout_text whole) ≤ 124
   whiteout-short =
-      omega (arith, ap length whited-is, ap length (join-head up (whiteout_prefix ++ last)), length-append (head_text up) (whiteout_prefix ++ last), ap length is-child, ap length (join-head up last), length-append (head_text up) last, path-short whole f)
+      omega (arith, ap length whiteout-joined, ap length (join-head up (whiteout_prefix ++ last)), length-append (head_text up) (whiteout_prefix ++ last), ap length is-child, ap length (join-head up last), length-append (head_text up) last, fine-short whole f)

@@ -6,6 +6,8 @@ use Rattle.std.specs.List.{AllByRecursion as All}
 use Rattle.paths.specs.declared.PathFault.{PathFault}
 use Rattle.paths.specs.Pieces.{front, later, pieces}
 use Rattle.paths.specs.Names.{split, join, begins, parent, last_name, fault, judge, judged}
+use Rattle.paths.specs.Steps.{map_err}
+use Rattle.paths.proofs.Granted.{mapped_ok}
 use Rattle.paths.proofs.Joins.{join-pieces, join_split, pieces-append}
 use Rattle.paths.proofs.Steps.{last_split, last_none, pieces_whole}
 use Rattle.rows.specs.Maps.{Names}
@@ -13,7 +15,8 @@ use Rattle.rows.proofs.Orders.{as_child, last_child}
 use Rattle.trees.specs.Entries.{fine}
 use Rattle.trees.proofs.Fine.{judged-fine}
 use Rattle.layer_fields.proofs.ReadTexts.{head_text, join-head}
-use Rattle.layer_fields.specs.Texts.{whiteout_prefix, last_of, before_last, whiteout_text, is_whited, unwhited, whited_path, held, row_path}
+use Rattle.layer_fields.specs.declared.fault.Cause.TheVariants.{Path}
+use Rattle.layer_fields.specs.Texts.{whiteout_prefix, last_of, before_last, whiteout_text, has_whiteout_prefix, without_prefix, whiteout_path, row_path}
 
 begins_back : (a b : List ℕ) → begins a b ≡ true → b ≡ a ++ drop (length a) b
 begins_back [] b h = refl
@@ -25,7 +28,7 @@ begins_back (x ∷ a) (y ∷ b) h =
 -- ---- the last name
 
 -- no byte is a `/`
-abbrev pub Unslashed : List ℕ → Type 0
+abbrev Unslashed : List ℕ → Type 0
 Unslashed s = (k : ℕ) → k < length s → get_or s k 0 ≡ 47 → ⊥
 
 front_unslashed : (s : List ℕ) → Unslashed (front 47 s)
@@ -78,42 +81,36 @@ judged-text s p h = go (fault s) h where
       sym (ap join is) ∙ join_split s
   go (Some e) h = cc
 
-held_ok : (r : Result Names PathFault) (p : Names) → held r ≡ Ok p → r ≡ Ok p
-held_ok (Ok q) p h =
-    let is : q ≡ p = cc in
-    ap Ok is
-held_ok (Err e) p h = cc
-
-whited_ok : (r : Result Names PathFault) (p : Names) → whited_path r ≡ Ok p → r ≡ Ok p
-whited_ok (Ok []) p h = cc
-whited_ok (Ok (n ∷ q)) p h =
+whiteout_ok : (r : Result Names PathFault) (p : Names) → whiteout_path r ≡ Ok p → r ≡ Ok p
+whiteout_ok (Ok []) p h = cc
+whiteout_ok (Ok (n ∷ q)) p h =
     let is : n ∷ q ≡ p = cc in
     ap Ok is
-whited_ok (Err e) p h = cc
+whiteout_ok (Err e) p h = cc
 
 module _ (s : List ℕ) (p : Names) where
-  whited_is : is_whited s ≡ true → row_path s ≡ Ok p → judge (unwhited s) ≡ Ok p
-  whited_is w h = whited_ok (judge (unwhited s)) p (sym (ap (λ t. cond t (whited_path (judge (unwhited s))) (held (judge s))) w) ∙ h)
+  whiteout_is : has_whiteout_prefix s ≡ true → row_path s ≡ Ok p → judge (without_prefix s) ≡ Ok p
+  whiteout_is w h = whiteout_ok (judge (without_prefix s)) p (sym (ap (λ t. cond t (whiteout_path (judge (without_prefix s))) (map_err Path (judge s))) w) ∙ h)
 
-  held_is : is_whited s ≡ false → row_path s ≡ Ok p → judge s ≡ Ok p
-  held_is w h = held_ok (judge s) p (sym (ap (λ t. cond t (whited_path (judge (unwhited s))) (held (judge s))) w) ∙ h)
+  held_is : has_whiteout_prefix s ≡ false → row_path s ≡ Ok p → judge s ≡ Ok p
+  held_is w h = mapped_ok Path (judge s) p (sym (ap (λ t. cond t (whiteout_path (judge (without_prefix s))) (map_err Path (judge s))) w) ∙ h)
 
-  pub path_written : is_whited s ≡ false → row_path s ≡ Ok p → s ≡ join p
+  pub path_written : has_whiteout_prefix s ≡ false → row_path s ≡ Ok p → s ≡ join p
   path_written w h = sym (judged-text s p (held_is w h))
 
-  pub whiteout_written : is_whited s ≡ true → row_path s ≡ Ok p → s ≡ whiteout_text p
+  pub whiteout_written : has_whiteout_prefix s ≡ true → row_path s ≡ Ok p → s ≡ whiteout_text p
   whiteout_written w h =
       let n = last_of s in
       let q = headed s in
       let u : Unslashed (drop 4 n) = λ k lt e. last_unslashed s (4 + k) (omega (arith, length-drop 4 n)) (sym (get_or-drop 4 n k 0) ∙ e) in
       let head : before_last s ≡ head_text q.0 = ap before_last q.1 ∙ before_headed n (last_unslashed s) q.0 in
-      let text : join p ≡ head_text q.0 ++ drop 4 n = judged-text (unwhited s) p (whited_is w h) ∙ ap (λ f. f ++ drop 4 n) head in
+      let text : join p ≡ head_text q.0 ++ drop 4 n = judged-text (without_prefix s) p (whiteout_is w h) ∙ ap (λ f. f ++ drop 4 n) head in
       let first : before_last (join p) ≡ head_text q.0 = ap before_last text ∙ before_headed (drop 4 n) u q.0 in
       let last : last_of (join p) ≡ drop 4 n = ap last_of text ∙ last_headed (drop 4 n) u q.0 in
       q.1 ∙ ap (λ z. head_text q.0 ++ z) (begins_back whiteout_prefix n w) ∙ sym (λ i. first i ++ (whiteout_prefix ++ last i))
 
   pub row_path_fine : row_path s ≡ Ok p → fine p ≡ true
-  row_path_fine h = go (is_whited s) h where
-    go : (t : Bool) → cond t (whited_path (judge (unwhited s))) (held (judge s)) ≡ Ok p → fine p ≡ true
-    go true h = judged-fine (unwhited s) p (whited_ok (judge (unwhited s)) p h)
-    go false h = judged-fine s p (held_ok (judge s) p h)
+  row_path_fine h = go (has_whiteout_prefix s) h where
+    go : (t : Bool) → cond t (whiteout_path (judge (without_prefix s))) (map_err Path (judge s)) ≡ Ok p → fine p ≡ true
+    go true h = judged-fine (without_prefix s) p (whiteout_ok (judge (without_prefix s)) p h)
+    go false h = judged-fine s p (mapped_ok Path (judge s) p h)

@@ -2,6 +2,7 @@
 use Rattle.std.specs.Prelude.{ℕ, ◌-◌, Bool, cond, List, [], ◌∷◌, ◌++◌, length, take, drop, Ok, Err, Result}
 use Rattle.paths.specs.declared.PathFault.{PathFault}
 use Rattle.paths.specs.Names.{split, join, begins, same, last_name, judge}
+use Rattle.paths.specs.Steps.{map_err}
 use Rattle.rows.specs.Maps.{Names}
 use Rattle.layer_fields.specs.declared.fault.Cause.{Cause}
 use Rattle.layer_fields.specs.declared.fault.Cause.TheVariants.{Whiteout, Path}
@@ -36,23 +37,19 @@ marker_text p = join (p ++ opaque_name ∷ [])
 abbrev pub is_marker : List ℕ → Bool
 is_marker s = same opaque_name (last_of s)
 
-abbrev pub is_whited : List ℕ → Bool
-is_whited s = begins whiteout_prefix (last_of s)
+abbrev pub has_whiteout_prefix : List ℕ → Bool
+has_whiteout_prefix s = begins whiteout_prefix (last_of s)
 
 -- a text without the `.wh.` before its last name
-abbrev pub unwhited : List ℕ → List ℕ
-unwhited s = before_last s ++ drop 4 (last_of s)
+abbrev pub without_prefix : List ℕ → List ℕ
+without_prefix s = before_last s ++ drop 4 (last_of s)
 
 -- what is whited out is a good path, and not the root
-abbrev pub whited_path : Result Names PathFault → Result Names Cause
-whited_path (Ok []) = Err Whiteout
-whited_path (Ok (n ∷ p)) = Ok (n ∷ p)
-whited_path (Err f) = Err Whiteout
-
-abbrev pub held : Result Names PathFault → Result Names Cause
-held (Ok p) = Ok p
-held (Err f) = Err (Path f)
+abbrev pub whiteout_path : Result Names PathFault → Result Names Cause
+whiteout_path (Ok []) = Err Whiteout
+whiteout_path (Ok (n ∷ p)) = Ok (n ∷ p)
+whiteout_path (Err f) = Err Whiteout
 
 -- the path of a row, by the text of its path field
 abbrev pub row_path : List ℕ → Result Names Cause
-row_path s = cond (is_whited s) (whited_path (judge (unwhited s))) (held (judge s))
+row_path s = cond (has_whiteout_prefix s) (whiteout_path (judge (without_prefix s))) (map_err Path (judge s))

@@ -3,7 +3,7 @@ ghost use Rattle.std.specs.Prelude.{◌≡◌, ◌++◌, [], Ok, Err, MatchOptio
 ghost use Rattle.paths.specs.Names.{judge};
 ghost use Rattle.paths.specs.Paths.{names};
 ghost use Rattle.layer_fields.specs.declared.fault.Cause.TheVariants.{Whiteout};
-ghost use Rattle.layer_fields.specs.Texts.{before_last, is_marker, is_whited, row_path, whited_path};
+ghost use Rattle.layer_fields.specs.Texts.{before_last, is_marker, has_whiteout_prefix, row_path, whiteout_path};
 
 use crate::fault::Cause;
 use arrayvec::ArrayVec;
@@ -23,9 +23,9 @@ pub fn is_marker(text: &[u8]) -> bool
     last_piece(text) == OPAQUE
 }
 
-// Whether a text names a whiteout, or a marker.
-pub fn is_whited(text: &[u8]) -> bool
-    ensures { result ≡ is_whited text.now }
+// Whether a text names a whiteout or a marker: whether `.wh.` begins its last name.
+pub fn has_whiteout_prefix(text: &[u8]) -> bool
+    ensures { result ≡ has_whiteout_prefix text.now }
 {
     last_piece(text).starts_with(WHITEOUT)
 }
@@ -38,8 +38,8 @@ pub fn before_last(text: &[u8]) -> &[u8]
 }
 
 // The path of a whiteout, whose text is given in two parts, without `.wh.` between them: a good one, and not the root.
-fn whited_path(before: &[u8], name: &[u8]) -> Option<Path>
-    ensures { MatchOption result (whited_path (judge (before.now ++ name.now)) ≡ Err Whiteout) (λ p. whited_path (judge (before.now ++ name.now)) ≡ Ok (names p)) }
+fn whiteout_path(before: &[u8], name: &[u8]) -> Option<Path>
+    ensures { MatchOption result (whiteout_path (judge (before.now ++ name.now)) ≡ Err Whiteout) (λ p. whiteout_path (judge (before.now ++ name.now)) ≡ Ok (names p)) }
 {
     let mut text = ArrayVec::<u8, 120>::new();
     text.try_extend_from_slice(before).ok()?;
@@ -54,5 +54,5 @@ pub fn row_path(text: &[u8]) -> Result<Path, Cause>
     let Some(name) = last_piece(text).strip_prefix(WHITEOUT) else {
         return Ok(Path::parse(text)?);
     };
-    whited_path(before_last(text), name).ok_or(Cause::Whiteout)
+    whiteout_path(before_last(text), name).ok_or(Cause::Whiteout)
 }

@@ -1,11 +1,9 @@
 -- What a chain over a path's prefixes says of it. Assumes nothing.
-use Rattle.std.proofs.Common.{◌≡◌, ℕ, zero, suc, Bool, true, false, cond, not, ◌||◌, List, [], ◌∷◌, map, length, take, Option, sym, refl, ap, ◌∙◌}
-use Rattle.std.proofs.Math.Bool.{or_assoc, or-false}
+use Rattle.std.proofs.Common.{◌≡◌, ℕ, zero, suc, Bool, true, false, cond, not, ◌||◌, List, [], ◌∷◌, map, length, take, refl, ap, ◌∙◌}
 use Rattle.std.specs.List.{list_any, filter}
 use Rattle.paths.specs.Names.{prefixes}
 use Rattle.rows.specs.Maps.{Names, has}
-use Rattle.marks.specs.declared.mark.Mark.{Mark}
-use Rattle.marks.specs.Marks.{MarkRow, below, some_above}
+use Rattle.marks.specs.Marks.{MarkRow, below, some_proper}
 use Rattle.marks.specs.Edits.{lacking}
 
 below-first : {A B : Type 0} (f : B → Bool) (g : A → B) (k : ℕ) (xs : List A) → list_any f (take k (map g xs)) ≡ list_any (λ x. f (g x)) (take k xs)
@@ -13,16 +11,9 @@ below-first f g zero xs = refl
 below-first f g (suc k) [] = refl
 below-first f g (suc k) (x ∷ xs) = ap (λ z. f (g x) || z) (below-first f g k xs)
 
-module _ (t : Option Mark → Bool) where
-  any_from : (p : Names) (b : Bool) (m : Names → Option Mark) → (b || list_any (λ q. t (m q)) (take (length p) (prefixes p))) ≡ some_above t b m p
-  any_from [] b m = or-false b
-  any_from (n ∷ p) b m =
-      ap (λ z. b || (t (m []) || z)) (below-first (λ q. t (m q)) (λ q. n ∷ q) (length p) (prefixes p))
-      ∙ sym (or_assoc b (t (m [])) (list_any (λ q. t (m (n ∷ q))) (take (length p) (prefixes p))))
-      ∙ any_from p (b || t (m [])) (below m n)
-
-  pub any_above : (m : Names → Option Mark) (p : Names) → list_any (λ q. t (m q)) (take (length p) (prefixes p)) ≡ some_above t false m p
-  any_above m p = any_from p false m
+pub any_proper : (t : Names → Bool) (p : Names) → list_any t (take (length p) (prefixes p)) ≡ some_proper t p
+any_proper t [] = refl
+any_proper t (n ∷ p) = ap (λ z. t [] || z) (below-first t (λ q. n ∷ q) (length p) (prefixes p) ∙ any_proper (below t n) p)
 
 module _ (m : List MarkRow) where
   one_more : (t : Bool) (q : Names) (qs : List Names) → length (cond (not t) (q ∷ qs) qs) ≡ cond t (length qs) (suc (length qs))

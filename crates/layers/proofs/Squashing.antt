@@ -6,7 +6,7 @@ use Rattle.std.proofs.lemmas.Bool.{true≢false, and_from, or_parts, cond-true, 
 use Rattle.rows.specs.declared.row.Row.{Row}
 use Rattle.rows.specs.Rows.{row_of, rows_of}
 use Rattle.rows.specs.Tables.{spliced, splices}
-use Rattle.rows.specs.Maps.{Names, at, has, ascending, or_else}
+use Rattle.rows.specs.Maps.{Names, at, has, ascending}
 use Rattle.rows.specs.Builds.{same, set_at}
 use Rattle.rows.proofs.Built.{told, at_set, ascending_set, same_rows}
 use Rattle.rows.proofs.Changed.{at-append, at-last}
@@ -17,6 +17,7 @@ use Rattle.marks.specs.Marks.{MarkRow, cut, unless, layered}
 use Rattle.marks.specs.Squash.{over, squashed}
 use Rattle.marks.proofs.Counts.{length_has}
 use Rattle.marks.proofs.Squashes.{at-squashed, ascending-squashed, layered-squashed, squashed-empty, over-there}
+use Rattle.std.specs.Option.{option_or}
 
 -- the next of the rows in memory
 pub next_row : (items : List (Row Mark)) (i : ℕ) (x : Row Mark) → i < length items → x ≡ get_or items i x → (l : List MarkRow) → rows_of items ≡ l → take (i + 1) l ≡ take i l ++ row_of x ∷ []
@@ -45,7 +46,7 @@ copied u new none rows ok up few is nil answer put =
 
 module _ (u : List MarkRow) where
   -- the mark of the squash at a lower row
-  abbrev pub mark_over : MarkRow → Option Mark
+  abbrev mark_over : MarkRow → Option Mark
   mark_over r = over (at u r.0) (unless (cut (at u) r.0) (Some r.1))
 
   -- one lower row more, behind the others
@@ -88,7 +89,7 @@ module _ (u : List MarkRow) where
 
     in_all : (i : ℕ) (q : Names) → has (take i l) q ≡ true → has l q ≡ true
     in_all i q h = ap (λ z. has z q) (sym (take-append-drop i l)) ∙ ap is_some (at-append (take i l) (drop i l) q) ∙ go (at (take i l) q) h where
-      go : (o : Option Mark) → is_some o ≡ true → is_some (or_else o (at (drop i l) q)) ≡ true
+      go : (o : Option Mark) → is_some o ≡ true → is_some (option_or o (at (drop i l) q)) ≡ true
       go None k = absurd (true≢false (sym k))
       go (Some x) k = refl
 

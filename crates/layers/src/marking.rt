@@ -1,9 +1,9 @@
 // What a layer says of a path.
-ghost use Rattle.std.specs.Prelude.{◌≡◌, ◌≤◌, false, [], length};
+ghost use Rattle.std.specs.Prelude.{◌≡◌, ◌≤◌, [], length};
 ghost use Rattle.std.specs.Option.{option_map};
 ghost use Rattle.paths.specs.Paths.{names};
 ghost use Rattle.rows.specs.Maps.{at, child_path};
-ghost use Rattle.marks.specs.Marks.{is_opaque, some_above, cut};
+ghost use Rattle.marks.specs.Marks.{is_opaque, some_proper, cut};
 ghost use Rattle.marks.specs.Edits.{lacks};
 ghost use Rattle.layers.specs.Layers.{marks_of};
 
@@ -56,7 +56,7 @@ impl Layer {
 
     // Whether a proper prefix of the path is opaque.
     pub fn hides(&self, path: &Path) -> bool
-        ensures { result ≡ some_above is_opaque false (at (marks_of self.now)) (names path.now) }
+        ensures { result ≡ some_proper (λ q. is_opaque (at (marks_of self.now) q)) (names path.now) }
     {
         path.prefixes()
             .take(path.depth())

@@ -4,3 +4,5 @@ pub mod Steps
 pub mod Texts
 pub mod Rest
 pub mod Roots
+pub mod Undoing
+pub mod Seen

@@ -88,7 +88,7 @@ module _ (rs : List Row) (a : ascending rs ≡ true) (c : closed rs rs ≡ true)
       named : (r.0 ≡ q ++ last_name r.0 ∷ []) × (is_lt (by_bytes n (last_name r.0)) ≡ true)
       named = is_child_of q n r (first_some (is_child q n) rs r h).1
 
-      pub row_is : r.0 ≡ q ++ last_name r.0 ∷ []
+      row_is : r.0 ≡ q ++ last_name r.0 ∷ []
       row_is = named.0
 
       pub some_next : first (is_after p) rs ≡ Some r

@@ -24,7 +24,7 @@ before-after-false : (p : List (List ℕ)) (x : Row) → before x.0 p ≡ true �
 before-after-false p x b = false_from_ne_true (is_after p x) (λ h. not_before_self p (before-trans p x.0 p h b))
 
 -- a row, and the rows after it
-pub from_row : (rs : List Row) → ascending rs ≡ true → (p : List (List ℕ)) (e : Entry) → In rs (p, e) → from p rs ≡ (p, e) ∷ from_at (path_after rs p) rs
+from_row : (rs : List Row) → ascending rs ≡ true → (p : List (List ℕ)) (e : Entry) → In rs (p, e) → from p rs ≡ (p, e) ∷ from_at (path_after rs p) rs
 from_row [] a p e i = absurd i
 from_row (r ∷ rs) a p e i =
     ⊎_elim (λ s. here s) (λ j. later j (from_row rs (tail-ascends r rs a) p e j)) i where

@@ -1,24 +1,16 @@
 -- The turns of `following`. Assumes nothing.
-use Rattle.std.proofs.Common.{◌≡◌, ℕ, ◌<◌, true, List, [], ◌∷◌, ◌++◌, length, is_some, Some, None, Option, sym, refl, ap, ◌∙◌, subst, append_assoc, append-nil, arith}
-use Rattle.std.proofs.lemmas.Bool.{true≢false}
+use Rattle.std.proofs.Common.{◌≡◌, ℕ, ◌<◌, true, List, [], ◌∷◌, ◌++◌, length, Some, None, sym, ap, ◌∙◌, subst, append_assoc, append-nil, arith}
 use Rattle.std.proofs.lemmas.List.{length-append}
 use Rattle.std.specs.Option.{option_map}
 use Rattle.paths.specs.Names.{parent, last_name, Under}
 use Rattle.rows.specs.Maps.{first, has, ascending, is_child, child_path, path_after}
-use Rattle.trees.specs.Entries.{Entries, Row, closed}
+use Rattle.trees.specs.Entries.{Entries, closed}
 use Rattle.rows.proofs.Orders.{as_child}
 use Rattle.rows.proofs.Firsts.{up}
 use Rattle.trees.proofs.Closed.{tree_parts, closed-rooted}
 use Rattle.listing.proofs.Next.{Clear, Stands, stands-first, stands_up, none-clear, some_next, clear_none}
 use Rattle.listing.proofs.Child.{Left}
-
-one_row : (o : Option Row) (p : List (List ℕ)) → Some p ≡ option_map (λ r. r.0) o → (r : Row) × (o ≡ Some r) × (r.0 ≡ p)
-one_row None p e = absurd (true≢false (ap is_some e))
-one_row (Some r) p e = (r, refl, cc)
-
-no_row : (o : Option Row) → None ≡ option_map (λ r. r.0) o → o ≡ None
-no_row None e = refl
-no_row (Some r) e = absurd (true≢false (sym (ap is_some e)))
+use Rattle.paths.proofs.Granted.{mapped_none, mapped_some}
 
 child_of : (q : List (List ℕ)) → 0 < length q → q ≡ parent q ++ last_name q ∷ []
 child_of [] h = absurd (omega arith)
@@ -37,7 +29,7 @@ module _ (en : Entries) (p : List (List ℕ)) where
 
   by_some : (q : List (List ℕ)) (n : List ℕ) → Stands en.rows asc clo p q n → (z : List (List ℕ)) → Some z ≡ child_path en.rows q n → Some z ≡ path_after en.rows p
   by_some q n s z e =
-      let d = one_row (first (is_child q n) en.rows) z e in
+      let d = mapped_some (λ r. r.0) (first (is_child q n) en.rows) z (sym e) in
       sym (ap (option_map (λ r. r.0)) (some_next en.rows asc clo p q n s d.0 d.1) ∙ ap Some d.2)
 
   pub start_some : (z : List (List ℕ)) → Some z ≡ child_path en.rows p [] → Some z ≡ path_after en.rows p
@@ -47,14 +39,14 @@ module _ (en : Entries) (p : List (List ℕ)) where
   start_none h e = record {
     under = ([], sym (append-nil p));
     there = h;
-    clear = none-clear en.rows asc clo p p [] (stands-first en.rows asc clo p) (no_row (first (is_child p []) en.rows) e);
+    clear = none-clear en.rows asc clo p p [] (stands-first en.rows asc clo p) (mapped_none (λ r. r.0) (first (is_child p []) en.rows) (sym e));
   }
 
   pub at_root : Left en p [] → None ≡ path_after en.rows p
   at_root l = sym (ap (option_map (λ r. r.0)) (clear_none en.rows asc clo p l.clear))
 
   module _ (q : List (List ℕ)) (l : Left en p q) (up-q : List (List ℕ)) (is : up-q ≡ parent q) where
-    pub step_there : has en.rows up-q ≡ true
+    step_there : has en.rows up-q ≡ true
     step_there = subst (λ z. has en.rows z ≡ true) (sym is) (up en.rows (closed-rooted en.rows en.rows clo) q l.there)
 
     module _ (more : 0 < length q) where
@@ -71,7 +63,7 @@ module _ (en : Entries) (p : List (List ℕ)) where
       step_none e = record {
         under = (last_name q ∷ l.under.0, l.under.1 ∙ ap (λ z. z ++ l.under.0) whole ∙ append_assoc up-q (last_name q ∷ []) l.under.0);
         there = step_there;
-        clear = none-clear en.rows asc clo p up-q (last_name q) stands (no_row (first (is_child up-q (last_name q)) en.rows) e);
+        clear = none-clear en.rows asc clo p up-q (last_name q) stands (mapped_none (λ r. r.0) (first (is_child up-q (last_name q)) en.rows) (sym e));
       }
 
 -- what `following` needs

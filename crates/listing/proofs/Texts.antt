@@ -16,7 +16,7 @@ pub escaped_more : (s : List ℕ) (i : ℕ) → i < length s → escaped (take (
 escaped_more s i h =
     ap escaped (take_more s i 0 h) ∙ escaped-append (take i s) (get_or s i 0 ∷ []) ∙ ap (λ z. escaped (take i s) ++ z) (append-nil (escape (get_or s i 0)))
 
-pub length-escape : (b : ℕ) → length (escape b) ≤ 4
+length-escape : (b : ℕ) → length (escape b) ≤ 4
 length-escape b = go (printable b) where
   go : (t : Bool) → length (cond t (b ∷ []) (92 ∷ (48 + b / 64) ∷ (48 + b / 8 % 8) ∷ (48 + b % 8) ∷ [])) ≤ 4
   go true = omega arith

@@ -59,6 +59,10 @@ abbrev pub lines : List Row → List ℕ
 lines [] = []
 lines (r ∷ rs) = line r.0 r.1 ++ lines rs
 
--- the line `#mtree`, and a line for each entry
+-- the line `#mtree`
+abbrev pub header : List ℕ
+header = 35 ∷ 109 ∷ 116 ∷ 114 ∷ 101 ∷ 101 ∷ 10 ∷ []
+
+-- that line, and a line for each entry
 abbrev pub listing : List Row → List ℕ
-listing rs = 35 ∷ 109 ∷ 116 ∷ 114 ∷ 101 ∷ 101 ∷ 10 ∷ lines rs
+listing rs = header ++ lines rs

@@ -2,13 +2,14 @@
 
 #![tactic(auto)]
 
-ghost use Rattle.std.specs.Prelude.{◌≡◌, ◌<◌, ◌≤◌, ◌++◌, length, drop, if◌then◌else◌, Ok, Err, MatchOption, nat_lt};
-ghost use Rattle.trees.specs.declared.fault.Fault.TheVariants.{ShortBuffer};
+ghost use Rattle.std.specs.Prelude.{◌≡◌, ◌<◌, ◌≤◌, ◌++◌, length, drop, MatchOption};
+ghost use Rattle.trees.specs.Buffers.{fitted, put_front};
 ghost use Rattle.listing.specs.Lines.{listing};
 
 mod following;
 mod line;
 mod lines;
+pub mod pieces;
 
 use crate::lines::Lines;
 use trees::fault::Fault;
@@ -48,8 +49,8 @@ fn write<T: Tree>(tree: &T, buffer: &mut [u8])
 // Writes `#mtree` and a line for each entry, in the order of their paths, and answers how many
 // bytes that are. A buffer that is too short is left alone.
 pub fn list<T: Tree>(tree: &T, buffer: &mut [u8]) -> Result<usize, Fault>
-    ensures answer { result ≡ (if nat_lt (length buffer.old) (length (listing (T.Tree.entries tree.now).rows)) then Err ShortBuffer else Ok (length (listing (T.Tree.entries tree.now).rows))) }
-    ensures after { buffer.new ≡ (if nat_lt (length buffer.old) (length (listing (T.Tree.entries tree.now).rows)) then buffer.old else listing (T.Tree.entries tree.now).rows ++ drop (length (listing (T.Tree.entries tree.now).rows)) buffer.old) }
+    ensures answer { result ≡ fitted (listing (T.Tree.entries tree.now).rows) (length buffer.old) }
+    ensures after { buffer.new ≡ put_front (listing (T.Tree.entries tree.now).rows) buffer.old }
 {
     let n = measure(tree, buffer.len()).ok_or(Fault::ShortBuffer)?;
     write(tree, buffer);

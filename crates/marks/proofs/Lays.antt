@@ -9,8 +9,8 @@ use Rattle.rows.proofs.Built.{at_joined, ascending-build, ascends-union, ascends
 use Rattle.trees.specs.Entries.{grown}
 use Rattle.trees.proofs.Grown.{Sound, sound-at}
 use Rattle.marks.specs.declared.mark.Mark.{Mark}
-use Rattle.marks.specs.Marks.{MarkRow, stops, holds, ranged, cut, unless, laid, sound}
-use Rattle.marks.proofs.Cuts.{above-child}
+use Rattle.marks.specs.Marks.{MarkRow, stops, marks_dir, ranged, cut, unless, laid, sound}
+use Rattle.marks.proofs.Cuts.{proper-child}
 
 pub none_either : {V : Type 0} (c : Bool) → ◌≡◌ {A = Option V} (unless c None) None
 none_either true = refl
@@ -27,7 +27,7 @@ pub record Joins {V : Type 0} (join : Option Mark → Option V → Option V) (pa
   -- what a mark sets passes
   pub sets : (x : Mark) (y : Option V) (v : V) → ranged x ≡ true → join (Some x) y ≡ Some v → passes v ≡ true
   -- a mark of a directory makes one
-  pub upper : (x : Option Mark) (y : Option V) → holds x ≡ true → dir (join x y) ≡ true
+  pub upper : (x : Option Mark) (y : Option V) → marks_dir x ≡ true → dir (join x y) ≡ true
   -- and a directory below stays one where no mark stops
   pub lower : (x : Option Mark) (y : Option V) → stops x ≡ false → dir y ≡ true → dir (join x y) ≡ true
 
@@ -48,7 +48,7 @@ module _ {V : Type 0} (join : Option Mark → Option V → Option V) where
       lower-parent [] n c d = ap (λ x. dir (join x (at e []))) n ∙ ap dir (j.none (at e [])) ∙ d
       lower-parent (k ∷ p) n c d =
           let q = parent (k ∷ p) in
-          let f = or_parts (cut (at m) q) (stops (at m q)) (sym (above-child stops q (last_name (k ∷ p)) false (at m)) ∙ (sym (ap (cut (at m)) (as_child k p)) ∙ c)) in
+          let f = or_parts (cut (at m) q) (stops (at m q)) (sym (proper-child (λ r. stops (at m r)) q (last_name (k ∷ p))) ∙ (sym (ap (cut (at m)) (as_child k p)) ∙ c)) in
           j.lower (at m q) (unless (cut (at m) q) (at e q)) f.1 (ap (λ b. dir (unless b (at e q))) f.0 ∙ d)
 
       pub lay-sound : (p : Names) (v : V) → at (lay m e) p ≡ Some v → Sound passes dir (lay m e) (p, v)
@@ -63,7 +63,7 @@ module _ {V : Type 0} (join : Option Mark → Option V → Option V) where
               under = ap dir (at-lay m e (parent p)) ∙ lower-parent p n u.0 d.under;
             }
         go (Some x) n s =
-            let d = sound-at ranged holds m lm p x n in
+            let d = sound-at ranged marks_dir m lm p x n in
             record {
               good = d.good;
               ranged = j.sets x (unless (cut (at m) p) (at e p)) v d.ranged s;

@@ -1,5 +1,5 @@
 -- What paths have marks after an edit, and how many. Assumes nothing.
-use Rattle.std.proofs.Common.{◌≡◌, ℕ, suc, ◌+◌, ◌≤◌, Bool, true, false, cond, ◌&&◌, List, [], ◌∷◌, length, is_some, Some, None, Option, sym, refl, ap, ◌∙◌, ⊎_elim, arith}
+use Rattle.std.proofs.Common.{◌≡◌, ℕ, suc, ◌+◌, ◌≤◌, Bool, true, false, cond, List, [], ◌∷◌, length, is_some, Some, None, Option, sym, refl, ap, ◌∙◌, ⊎_elim, arith}
 use Rattle.std.proofs.lemmas.Bool.{true≢false, or_left, or_right, or_cases}
 use Rattle.paths.specs.Names.{prefixes}
 use Rattle.paths.proofs.Joins.{prefixes_long}
@@ -10,7 +10,7 @@ use Rattle.rows.proofs.Unders.{among-prefixes}
 use Rattle.rows.proofs.Changed.{at-without}
 use Rattle.trees.specs.declared.entry.Entry.{Entry}
 use Rattle.trees.specs.declared.entry.Entry.TheVariants as entry
-use Rattle.trees.specs.Entries.{Row, is_dir, closed}
+use Rattle.trees.specs.Entries.{Row, is_dir, is_tree}
 use Rattle.edits.specs.declared.action.Action.{Action}
 use Rattle.edits.specs.declared.action.Action.TheVariants.{Put, Mkdir, Chmod, Remove}
 use Rattle.edits.specs.Edits.{removes, refused_at}
@@ -18,7 +18,7 @@ use Rattle.edits.proofs.Granted.{granted-put, granted-mkdir, granted-chmod}
 use Rattle.marks.specs.declared.mark.Mark.{Mark}
 use Rattle.marks.specs.declared.mark.Mark.TheVariants.{Whiteout, File, Dir, Opaque}
 use Rattle.marks.specs.Marks.{MarkRow, cut, unless, see, merged, layered}
-use Rattle.marks.specs.Edits.{lifted, write_at, written, made_dir, new_mode, new_mark, write_some, shows_below, removed, marked, lacking, lacks, ProperDirs}
+use Rattle.marks.specs.Edits.{lifted, write_at, written, made_dir, new_mode, new_mark, write_some, shows_again, removed, marked, lacking, lacks, ProperDirs}
 use Rattle.marks.specs.Plain.{missing, unnoted}
 use Rattle.marks.proofs.Merges.{at-merged, layer_parts, merged-closed}
 use Rattle.marks.proofs.Grows.{dirs-above, dirs-parent, ascending-without}
@@ -76,7 +76,7 @@ module _ (x : Mark) (m : List MarkRow) (e : List Row) (p : Names) where
   unfolding written
   length_most = length-build (write_at x (at m) (at (merged m e)) p) (union (prefixes p) (keys m))
 
-  pub lacks-written : ProperDirs (merged m e) p → lacks (written x m e p) p ≡ 0
+  lacks-written : ProperDirs (merged m e) p → lacks (written x m e p) p ≡ 0
   lacks-written dirs =
       lacks-unnoted (written x m e p) p
       ∙ missing-none (keys (written x m e p)) (prefixes p) (λ q i. ap (λ ks. among ks q) (keys-written dirs) ∙ among-union (prefixes p) (keys m) q ∙ or_left (among (prefixes p) q) (among (keys m) q) i)
@@ -106,7 +106,7 @@ module _ (m : List MarkRow) (e : List Row) (p : Names) (up : ascending m ≡ tru
 
   most_removed : length (removed m e p) ≤ length m + lacks m p
   unfolding removed
-  most_removed = go (shows_below m e p) where
+  most_removed = go (shows_again m e p) where
     fewer : length (without p m) ≤ length m
     fewer =
         let a = length-within (keys m) (keys (without p m)) (ascends-keys m up) (ascends-keys (without p m) (ascending-without m p up)) (among-without m p) in
@@ -142,7 +142,7 @@ pub record Writes (m : List MarkRow) (e : List Row) (p : Names) (a : Action) : T
   pub after : marked m e p a ≡ written mark m e p
   pub dirs : ProperDirs (merged m e) p
 
-module _ (m : List MarkRow) (e : List Row) (lm : layered m ≡ true) (le : (ascending e && closed e e) ≡ true) (room need : ℕ) (p : Names) where
+module _ (m : List MarkRow) (e : List Row) (lm : layered m ≡ true) (le : is_tree e ≡ true) (room need : ℕ) (p : Names) where
   pub writes : (a : Action) → removes a ≡ false → refused_at (merged m e) room need p a ≡ None → Writes m e p a
   writes (Put (entry.File f)) r h =
       let g = granted-put (merged m e) room need p (entry.File f) h in

@@ -1,6 +1,5 @@
 -- What paths are marked opaque after an edit, and so what the plain map of a layer becomes. Assumes nothing.
 use Rattle.std.proofs.Common.{◌≡◌, ℕ, Bool, true, false, cond, not, ◌&&◌, ◌||◌, List, [], ◌∷◌, is_some, Some, None, Option, sym, refl, ap, ◌∙◌, ⊎_elim}
-use Rattle.std.proofs.Math.Bool.{or_assoc}
 use Rattle.std.proofs.lemmas.Bool.{true≢false, cond-true, cond-false, cases_Bool}
 use Rattle.paths.specs.Names.{prefixes}
 use Rattle.rows.specs.Maps.{Names, at, has, ascending, under, without}
@@ -10,16 +9,17 @@ use Rattle.rows.proofs.Unders.{under-itself}
 use Rattle.rows.proofs.Changed.{at-without}
 use Rattle.trees.specs.declared.entry.Entry.{Entry}
 use Rattle.trees.specs.declared.entry.Entry.TheVariants as entry
-use Rattle.trees.specs.Entries.{Row, is_dir, closed}
+use Rattle.trees.specs.Entries.{Row, is_dir, is_tree}
 use Rattle.edits.specs.declared.action.Action.{Action}
 use Rattle.edits.specs.declared.action.Action.TheVariants.{Put, Mkdir, Chmod, Remove}
 use Rattle.edits.specs.Edits.{removes, refused_at}
 use Rattle.edits.proofs.Granted.{granted-put, granted-mkdir, granted-remove}
 use Rattle.marks.specs.declared.mark.Mark.{Mark}
 use Rattle.marks.specs.declared.mark.Mark.TheVariants.{Whiteout, File, Dir, Opaque}
-use Rattle.marks.specs.Marks.{MarkRow, is_opaque, below, some_above, cut, unless, see, merged, layered}
-use Rattle.marks.specs.Edits.{lifted, written, made_dir, new_mode, shows_below, removed, marked, ProperDirs}
-use Rattle.marks.specs.Plain.{note, clear, some_proper, would_show, granted_plain, opaque_paths, plain_of}
+use Rattle.marks.specs.Marks.{MarkRow, is_opaque, cut, unless, see, merged, layered}
+use Rattle.marks.specs.Edits.{lifted, written, made_dir, new_mode, shows_again, removed, marked, ProperDirs}
+use Rattle.marks.specs.Plain.{note, clear, would_show, granted_plain, opaque_paths, plain_of}
+use Rattle.marks.proofs.Cuts.{proper_alike}
 use Rattle.marks.proofs.Merges.{at-merged, layer_parts, merged-closed}
 use Rattle.marks.proofs.Writes.{written-here, written-above, written_apart, ascending-written}
 use Rattle.marks.proofs.Counts.{above-not, same_paths}
@@ -87,19 +87,11 @@ keys-without p (r ∷ m) = go (under p r.0) (keys-without p m) where
   go true h = h
   go false h = ap (λ ks. r.0 ∷ ks) h
 
--- ---- a test of the proper prefixes
+-- ---- what would be seen again
 
-above_proper : {N : Type 0} (t : Option Mark → Bool) (b : Bool) (f : List N → Option Mark) (p : List N) → some_above t b f p ≡ (b || some_proper (λ q. t (f q)) p)
-above_proper t b f [] = elim b as (λ c. c ≡ (c || false)) [ true ↦ refl | false ↦ refl ]
-above_proper t b f (n ∷ p) = above_proper t (b || t (f [])) (below f n) p ∙ or_assoc b (t (f [])) (some_proper (λ q. t (f (n ∷ q))) p)
-
-proper_alike : {N : Type 0} (f g : List N → Bool) → ((q : List N) → f q ≡ g q) → (p : List N) → some_proper f p ≡ some_proper g p
-proper_alike f g h [] = refl
-proper_alike f g h (n ∷ p) = ap (λ b. b || some_proper (below f n) p) (h []) ∙ ap (λ b. g [] || b) (proper_alike (below f n) (below g n) (λ q. h (n ∷ q)) p)
-
-pub shows_would : (m : List MarkRow) (e : List Row) → ascending m ≡ true → (p : Names) → shows_below m e p ≡ would_show (plain_of m e) p
+shows_would : (m : List MarkRow) (e : List Row) → ascending m ≡ true → (p : Names) → shows_again m e p ≡ would_show (plain_of m e) p
 shows_would m e up p =
-    ap (λ b. has e p && not b) (above_proper is_opaque false (at m) p ∙ proper_alike (λ q. is_opaque (at m q)) (among (opaque_paths m)) (λ q. sym (among-opaque m (ascends-keys m up) q)) p)
+    ap (λ b. has e p && not b) (proper_alike (λ q. is_opaque (at m q)) (among (opaque_paths m)) p (λ q n s w. sym (among-opaque m (ascends-keys m up) q)))
 
 -- ---- the paths marked opaque after an edit
 
@@ -146,20 +138,20 @@ module _ (m : List MarkRow) (p : Names) (up : ascending m ≡ true) where
 
 -- ---- a path that is removed
 
-module _ (m : List MarkRow) (e : List Row) (lm : layered m ≡ true) (le : (ascending e && closed e e) ≡ true) (p : Names) where
+module _ (m : List MarkRow) (e : List Row) (lm : layered m ≡ true) (le : is_tree e ≡ true) (p : Names) where
   rise : ascending m ≡ true
   rise = (layer_parts m lm).0
 
   keys-removed : ProperDirs (merged m e) p → keys (removed m e p) ≡ cond (would_show (plain_of m e) p) (note p (clear p (keys m))) (clear p (keys m))
   unfolding removed
-  keys-removed dirs = go (shows_below m e p) ∙ ap (λ b. cond b (note p (clear p (keys m))) (clear p (keys m))) (shows_would m e rise p) where
+  keys-removed dirs = go (shows_again m e p) ∙ ap (λ b. cond b (note p (clear p (keys m))) (clear p (keys m))) (shows_would m e rise p) where
     go : (t : Bool) → keys (cond t (written Whiteout (without p m) e p) (without p m)) ≡ cond t (note p (clear p (keys m))) (clear p (keys m))
     go true = keys-written Whiteout (without p m) e p (dirs-without m e lm le p dirs) ∙ ap (union (prefixes p)) (keys-without p m)
     go false = keys-without p m
 
   opaque-removed : opaque_paths (removed m e p) ≡ clear p (opaque_paths m)
   unfolding removed
-  opaque-removed = go (shows_below m e p) where
+  opaque-removed = go (shows_again m e p) where
     go : (t : Bool) → opaque_paths (cond t (written Whiteout (without p m) e p) (without p m)) ≡ clear p (opaque_paths m)
     go true = opaque-kept Whiteout (without p m) e p (ascending-without m p rise) (sym (ap is_opaque (at_dropped m e lm le p p (under-itself p)))) ∙ opaque-without m p rise
     go false = opaque-without m p rise
@@ -182,7 +174,7 @@ mode_opaque k (Some (File f)) o = refl
 mode_opaque k (Some (Dir d)) o = refl
 mode_opaque k (Some (Opaque d)) o = refl
 
-module _ (m : List MarkRow) (e : List Row) (lm : layered m ≡ true) (le : (ascending e && closed e e) ≡ true) (room need : ℕ) (p : Names) where
+module _ (m : List MarkRow) (e : List Row) (lm : layered m ≡ true) (le : is_tree e ≡ true) (room need : ℕ) (p : Names) where
   up : ascending m ≡ true
   up = (layer_parts m lm).0
 

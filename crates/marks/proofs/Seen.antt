@@ -1,36 +1,26 @@
 -- The child that is seen behind a name, from the layer's rows and the tree below. Assumes nothing.
-use Rattle.std.proofs.Common.{◌≡◌, ℕ, ◌<◌, Bool, true, false, cond, not, ◌&&◌, ◌||◌, List, is_some, Some, None, Option, sym, refl, ap, ◌∙◌, subst, ⊎_elim}
+use Rattle.std.proofs.Common.{◌≡◌, ℕ, Bool, true, false, cond, not, ◌&&◌, ◌||◌, List, is_some, Some, None, Option, sym, refl, ap, ◌∙◌, subst, ⊎_elim}
 use Rattle.std.proofs.Math.Bool.{not-not}
-use Rattle.std.proofs.lemmas.Bool.{true≢false, both_ways, false_from_ne_true}
+use Rattle.std.proofs.lemmas.Bool.{both_ways, false_from_ne_true}
 use Rattle.std.specs.Option.{option_map}
 use Rattle.paths.specs.Names.{last_name}
-use Rattle.rows.specs.Maps.{Names, before, at, ascending, child_path}
+use Rattle.rows.specs.Maps.{Names, before, at, child_path}
 use Rattle.rows.proofs.Orders.{last_child}
-use Rattle.rows.proofs.Least.{less, less-trans, child, child-order, Least, least_alike, least_bound, least-from, named, least-child, child-least, ahead}
-use Rattle.rows.proofs.Least as least
-use Rattle.trees.specs.Entries.{Row, closed}
-use Rattle.trees.proofs.Grown.{is_none}
+use Rattle.rows.proofs.Least.{less, less-trans, child, child-order, Least, least_alike, least_bound, least-from, named, least-child, child-least}
+use Rattle.trees.specs.Entries.{Row, is_tree}
 use Rattle.marks.specs.declared.mark.Mark.{Mark}
 use Rattle.marks.specs.declared.mark.Mark.TheVariants.{Whiteout}
 use Rattle.marks.specs.Marks.{MarkRow, entry_of, stops, cut, unless, see, merged, layered}
-use Rattle.marks.proofs.Cuts.{above-child}
+use Rattle.marks.proofs.Cuts.{proper-child}
 use Rattle.trees.proofs.Closed.{tree_parts}
 use Rattle.marks.proofs.Merges.{at-merged, ascending-merged, layer_parts}
+use Rattle.paths.proofs.Granted.{is_none, mapped_none, mapped_some}
 
 shows : {V : Type 0} (b : Bool) (o : Option V) → is_some (unless (not b) o) ≡ (b && is_some o)
 shows true o = refl
 shows false o = refl
 
--- the path that a least name gives, taken apart
-none_name : (p : Names) (o : Option (List ℕ)) → option_map (child p) o ≡ None → o ≡ None
-none_name p None h = refl
-none_name p (Some n) h = absurd (true≢false (ap is_some h))
-
-some_name : (p r : Names) (o : Option (List ℕ)) → option_map (child p) o ≡ Some r → (n : List ℕ) × (o ≡ Some n) × (r ≡ child p n)
-some_name p r None h = absurd (true≢false (sym (ap is_some h)))
-some_name p r (Some n) h = let e : child p n ≡ r = cc in (n, refl, sym e)
-
-module _ (m : List MarkRow) (e : List Row) (lm : layered m ≡ true) (le : (ascending e && closed e e) ≡ true) (p : Names) (shown : Bool) (is : shown ≡ not (cut (at m) p || stops (at m p))) where
+module _ (m : List MarkRow) (e : List Row) (lm : layered m ≡ true) (le : is_tree e ≡ true) (p : Names) (shown : Bool) (is : shown ≡ not (cut (at m) p || stops (at m p))) where
   -- ---- what is seen at the child of a name
 
   abbrev seen : List ℕ → Bool
@@ -43,7 +33,7 @@ module _ (m : List MarkRow) (e : List Row) (lm : layered m ≡ true) (le : (asce
   lower k = shown && named e p k
 
   cut-child : (k : List ℕ) → cut (at m) (child p k) ≡ not shown
-  cut-child k = above-child stops p k false (at m) ∙ sym (not-not (cut (at m) p || stops (at m p))) ∙ ap not (sym is)
+  cut-child k = proper-child (λ q. stops (at m q)) p k ∙ sym (not-not (cut (at m) p || stops (at m p))) ∙ ap not (sym is)
 
   at-child : (k : List ℕ) → at (merged m e) (child p k) ≡ see (at m (child p k)) (unless (not shown) (at e (child p k)))
   at-child k = at-merged m e (child p k) ∙ ap (λ b. see (at m (child p k)) (unless b (at e (child p k)))) (cut-child k)
@@ -70,19 +60,19 @@ module _ (m : List MarkRow) (e : List Row) (lm : layered m ≡ true) (le : (asce
     low-some : (l : Names) → low ≡ Some l → (j : List ℕ) × (l ≡ child p j) × Least lower a (Some j)
     low-some l h =
         let d = low-least in
-        let n = some_name p l d.0 (sym d.1 ∙ h) in
-        (n.0, n.2, subst (Least lower a) n.1 d.2)
+        let n = mapped_some (child p) d.0 l (sym d.1 ∙ h) in
+        (n.0, sym n.2, subst (Least lower a) n.1 d.2)
 
     row-some : (r : Names) → child_path m p a ≡ Some r → (n : List ℕ) × (r ≡ child p n) × Least marked a (Some n)
     row-some r h =
         let d = least-child m (layer_parts m lm).0 p a in
-        let n = some_name p r d.0 (sym d.1 ∙ h) in
-        (n.0, n.2, subst (Least marked a) n.1 d.2)
+        let n = mapped_some (child p) d.0 r (sym d.1 ∙ h) in
+        (n.0, sym n.2, subst (Least marked a) n.1 d.2)
 
     row-none : child_path m p a ≡ None → Least marked a None
     row-none h =
         let d = least-child m (layer_parts m lm).0 p a in
-        subst (Least marked a) (none_name p d.0 (sym d.1 ∙ h)) d.2
+        subst (Least marked a) (mapped_none (child p) d.0 (sym d.1 ∙ h)) d.2
 
     seen-least : (o : Option (List ℕ)) → Least seen a o → child_path (merged m e) p a ≡ option_map (child p) o
     seen-least = child-least (merged m e) (ascending-merged m e (tree_parts e le).0) p a
@@ -139,7 +129,3 @@ module _ (m : List MarkRow) (e : List Row) (lm : layered m ≡ true) (le : (asce
       seen-least a y.0 (least-from seen a n y.0 d.2.1 (by_mark n Whiteout (ap (at m) (sym d.1) ∙ w)) (none_before a r f n d.1 d.2) y.2)
       ∙ sym y.1
       ∙ ap (child_path (merged m e) p) (sym (ap last_name d.1 ∙ last_child p n))
-
--- behind a row of the layer there are fewer
-pub fewer_ahead : (m : List MarkRow) (p : Names) (a : List ℕ) (r : Names) → child_path m p a ≡ Some r → ahead m p (last_name r) < ahead m p a
-fewer_ahead m p a r h = least.fewer_ahead m p a r h

@@ -11,16 +11,16 @@ use Rattle.trees.specs.Entries.{Row, is_dir, in_range}
 use Rattle.trees.proofs.Grown.{grown_by}
 use Rattle.marks.specs.declared.mark.Mark.{Mark}
 use Rattle.marks.specs.declared.mark.Mark.TheVariants.{Whiteout, File, Dir, Opaque}
-use Rattle.marks.specs.Marks.{MarkRow, stops, holds, ranged, below, some_above, cut, unless, see, laid, merged, sound, layered}
+use Rattle.marks.specs.Marks.{MarkRow, stops, marks_dir, ranged, below, cut, unless, see, laid, merged, sound, layered}
 use Rattle.marks.specs.Squash.{over, squashed}
-use Rattle.marks.proofs.Cuts.{above_alike}
+use Rattle.marks.proofs.Cuts.{cut_alike, cut_nowhere}
 use Rattle.marks.proofs.Counts.{length-keys, length_has, length-build, length_union, missing_most}
 use Rattle.marks.proofs.Lays.{Joins, none_either, lay, ascending-lay, at-lay, lay-sound}
 use Rattle.marks.proofs.Merges.{see-joins, layer_parts}
 
 -- ---- one mark over another
 
-pub over-none : (x : Option Mark) → over x None ≡ x
+over-none : (x : Option Mark) → over x None ≡ x
 over-none None = refl
 over-none (Some Whiteout) = refl
 over-none (Some (File f)) = refl
@@ -54,18 +54,18 @@ over-there (Some (File f)) y h = refl
 over-there (Some (Dir d)) y h = over_dir (λ o. is_some o ≡ true) d y refl refl
 over-there (Some (Opaque d)) y h = refl
 
-holds-over : (x y : Option Mark) → holds x ≡ true → holds (over x y) ≡ true
-holds-over None y h = absurd (true≢false (sym h))
-holds-over (Some Whiteout) y h = h
-holds-over (Some (File f)) y h = h
-holds-over (Some (Dir d)) y h = over_dir (λ o. holds o ≡ true) d y refl refl
-holds-over (Some (Opaque d)) y h = refl
+marks_dir-over : (x y : Option Mark) → marks_dir x ≡ true → marks_dir (over x y) ≡ true
+marks_dir-over None y h = absurd (true≢false (sym h))
+marks_dir-over (Some Whiteout) y h = h
+marks_dir-over (Some (File f)) y h = h
+marks_dir-over (Some (Dir d)) y h = over_dir (λ o. marks_dir o ≡ true) d y refl refl
+marks_dir-over (Some (Opaque d)) y h = refl
 
-lower-over : (x y : Option Mark) → stops x ≡ false → holds y ≡ true → holds (over x y) ≡ true
+lower-over : (x y : Option Mark) → stops x ≡ false → marks_dir y ≡ true → marks_dir (over x y) ≡ true
 lower-over None y s h = h
 lower-over (Some Whiteout) y s h = absurd (true≢false s)
 lower-over (Some (File f)) y s h = absurd (true≢false s)
-lower-over (Some (Dir d)) y s h = over_dir (λ o. holds o ≡ true) d y refl refl
+lower-over (Some (Dir d)) y s h = over_dir (λ o. marks_dir o ≡ true) d y refl refl
 lower-over (Some (Opaque d)) y s h = absurd (true≢false s)
 
 ranged_some : (x v : Mark) → ranged x ≡ true → ◌≡◌ {A = Option Mark} (Some x) (Some v) → ranged v ≡ true
@@ -77,39 +77,37 @@ over_ranged (File f) y v r e = ranged_some (File f) v r e
 over_ranged (Dir d) y v r e = over_dir (λ o. o ≡ Some v → ranged v ≡ true) d y (ranged_some (Dir d) v r) (ranged_some (Opaque d) v r) e
 over_ranged (Opaque d) y v r e = ranged_some (Opaque d) v r e
 
-pub over-joins : Joins over ranged holds
-over-joins = record { none = λ y. refl; sets = over_ranged; upper = holds-over; lower = lower-over }
+over-joins : Joins over ranged marks_dir
+over-joins = record { none = λ y. refl; sets = over_ranged; upper = marks_dir-over; lower = lower-over }
 
 -- ---- what is cut off
 
-flags : (b c : Bool) (x y : Option Mark) → ((b || c) || stops (over x (unless b y))) ≡ ((b || stops x) || (c || stops y))
-flags true c x y = refl
-flags false true x y = sym (or-true (stops x))
-flags false false x y = stops-over x y
+either : (s k x a b : Bool) → (s || x) ≡ (s || (a || b)) → ((s || k) || x) ≡ ((s || a) || (k || b))
+either true k x a b h = refl
+either false true x a b h = sym (or-true a)
+either false false x a b h = h
 
 -- where b says that something above stops already
 abbrev laid_from : {N : Type 0} → Bool → (List N → Option Mark) → (List N → Option Mark) → List N → Option Mark
-laid_from b u l p = over (u p) (unless (some_above stops b u p) (l p))
+laid_from b u l p = over (u p) (unless (b || cut u p) (l p))
 
-cut-laid : {N : Type 0} (p : List N) (b c : Bool) (u l : List N → Option Mark) → some_above stops (b || c) (laid_from b u l) p ≡ (some_above stops b u p || some_above stops c l p)
-cut-laid [] b c u l = refl
-cut-laid (n ∷ p) b c u l =
-    ap (λ t. some_above stops t (below (laid_from b u l) n) p) (flags b c (u []) (l []))
-    ∙ cut-laid p (b || stops (u [])) (c || stops (l [])) (below u n) (below l n)
+cut-laid : {N : Type 0} (p : List N) (b : Bool) (u l : List N → Option Mark) → (b || cut (laid_from b u l) p) ≡ (b || (cut u p || cut l p))
+cut-laid [] b u l = refl
+cut-laid (n ∷ p) true u l = refl
+cut-laid (n ∷ p) false u l =
+    let rest = cut (laid_from (stops (u [])) (below u n) (below l n)) p in
+    ap (λ t. t || rest) (stops-over (u []) (l []))
+    ∙ either (stops (u [])) (stops (l [])) rest (cut (below u n) p) (cut (below l n) p) (cut-laid p (stops (u [])) (below u n) (below l n))
 
 pub at-squashed : (u l : List MarkRow) (q : Names) → at (squashed u l) q ≡ laid over (at u) (at l) q
 unfolding squashed
-at-squashed = at-lay over ranged holds over-joins
+at-squashed = at-lay over ranged marks_dir over-joins
 
 -- a squash cuts off what either layer cuts off
 pub cut-squashed : (u l : List MarkRow) (p : Names) → cut (at (squashed u l)) p ≡ (cut (at u) p || cut (at l) p)
 cut-squashed u l p =
-    above_alike stops p false (at (squashed u l)) (laid over (at u) (at l)) (λ r n s e. ap stops (at-squashed u l r))
-    ∙ cut-laid p false false (at u) (at l)
-
-cut_nowhere : {N : Type 0} (p : List N) → cut (λ _. None) p ≡ false
-cut_nowhere [] = refl
-cut_nowhere (n ∷ p) = cut_nowhere p
+    cut_alike (at (squashed u l)) (laid over (at u) (at l)) p (λ r n s e. ap stops (at-squashed u l r))
+    ∙ cut-laid p false (at u) (at l)
 
 -- ---- it is a layer
 
@@ -119,7 +117,7 @@ ascending-squashed = ascending-lay over
 
 squashed-sound : (u l : List MarkRow) → sound u u ≡ true → sound l l ≡ true → ascending l ≡ true → sound (squashed u l) (squashed u l) ≡ true
 unfolding squashed
-squashed-sound u l a b up = grown_by ranged holds (squashed u l) (ascending-squashed u l up) (lay-sound over ranged holds over-joins u l a b)
+squashed-sound u l a b up = grown_by ranged marks_dir (squashed u l) (ascending-squashed u l up) (lay-sound over ranged marks_dir over-joins u l a b)
 
 pub layered-squashed : (u l : List MarkRow) → layered u ≡ true → layered l ≡ true → layered (squashed u l) ≡ true
 layered-squashed u l a b =
@@ -180,7 +178,7 @@ merged-squashed = lay-squashed see in_range is_dir see-joins see_acts
 
 pub squashed-squashed : (u l k : List MarkRow) → ascending k ≡ true → squashed (squashed u l) k ≡ squashed u (squashed l k)
 unfolding squashed
-squashed-squashed = lay-squashed over ranged holds over-joins over_acts
+squashed-squashed = lay-squashed over ranged marks_dir over-joins over_acts
 
 -- ---- the layer without rows
 
@@ -197,7 +195,7 @@ empty-squashed l up =
 -- ---- how many rows it has
 
 -- each row of the upper layer stays
-pub has-squashed : (u l : List MarkRow) (q : Names) → has u q ≡ true → has (squashed u l) q ≡ true
+has-squashed : (u l : List MarkRow) (q : Names) → has u q ≡ true → has (squashed u l) q ≡ true
 has-squashed u l q h = ap is_some (at-squashed u l q) ∙ over-there (at u q) (unless (cut (at u) q) (at l q)) h
 
 pub squashed_least : (u l : List MarkRow) → ascending u ≡ true → ascending l ≡ true → length u ≤ length (squashed u l)

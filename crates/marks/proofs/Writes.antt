@@ -1,53 +1,43 @@
 -- A mark written at a path, with its directories copied up. Assumes nothing.
 use Rattle.std.proofs.Common.{◌≡◌, ℕ, Bool, true, false, cond, List, ◌∷◌, ◌++◌, Some, None, Option, sym, refl, ap, ◌∙◌, subst, ⊎_elim}
-use Rattle.std.proofs.lemmas.Bool.{true≢false, and_left, and_right, or_parts, cond-true, cond-false, cases_Bool}
+use Rattle.std.proofs.lemmas.Bool.{true≢false, or_parts, cond-true, cond-false, cases_Bool}
 use Rattle.paths.specs.Names.{prefixes}
 use Rattle.rows.specs.Maps.{Names, at, ascending, under}
 use Rattle.rows.specs.Builds.{same, among, keys, union}
 use Rattle.rows.proofs.Built.{at-built, at-missing, among-union, ascending-build, ascends-union, ascends-keys, same-itself, same_path, told}
-use Rattle.rows.proofs.Unders.{under_goes, same-under, among-prefixes, strictly}
+use Rattle.rows.proofs.Unders.{under_goes, among-prefixes, strictly, not_over, not_at}
 use Rattle.trees.specs.declared.entry.Entry.{Entry}
 use Rattle.trees.specs.declared.entry.Entry.TheVariants as entry
 use Rattle.trees.specs.Entries.{Row, is_dir}
 use Rattle.marks.specs.declared.mark.Mark.{Mark}
 use Rattle.marks.specs.declared.mark.Mark.TheVariants.{Whiteout, File, Dir, Opaque}
-use Rattle.marks.specs.Marks.{MarkRow, entry_of, stops, holds, cut, unless, see, merged}
+use Rattle.marks.specs.Marks.{MarkRow, entry_of, stops, marks_dir, cut, unless, see, merged}
 use Rattle.marks.specs.Edits.{lifted, write_at, written}
-use Rattle.marks.proofs.Cuts.{above_alike, above_at}
+use Rattle.marks.proofs.Cuts.{cut_alike, proper_at}
 use Rattle.marks.proofs.Merges.{at-merged}
-
--- ---- two paths
-
--- neither at the other nor above it
-pub not_over : (q p : Names) → under q p ≡ false → same q p ≡ false
-not_over q p h = same-under q p ∙ and_left (under q p) (under p q) h
-
--- neither at the other nor below it
-pub not_at : (q p : Names) → under p q ≡ false → same q p ≡ false
-not_at q p h = same-under q p ∙ and_right (under q p) (under p q) h
 
 -- ---- what was copied up
 
-pub see-lifted : (x : Option Mark) (w : Option Entry) → see (lifted x (see x w)) w ≡ see x w
+see-lifted : (x : Option Mark) (w : Option Entry) → see (lifted x (see x w)) w ≡ see x w
 see-lifted None None = refl
 see-lifted None (Some (entry.File f)) = refl
 see-lifted None (Some (entry.Dir d)) = refl
 see-lifted (Some x) w = refl
 
-pub stops-lifted : (x : Option Mark) (w : Option Entry) → stops (lifted x w) ≡ stops x
+stops-lifted : (x : Option Mark) (w : Option Entry) → stops (lifted x w) ≡ stops x
 stops-lifted None None = refl
 stops-lifted None (Some (entry.File f)) = refl
 stops-lifted None (Some (entry.Dir d)) = refl
 stops-lifted (Some x) w = refl
 
-pub holds-lifted : (x : Option Mark) (w : Option Entry) → is_dir (see x w) ≡ true → holds (lifted x (see x w)) ≡ true
-holds-lifted None None h = h
-holds-lifted None (Some (entry.File f)) h = h
-holds-lifted None (Some (entry.Dir d)) h = refl
-holds-lifted (Some Whiteout) w h = h
-holds-lifted (Some (File f)) w h = h
-holds-lifted (Some (Dir d)) w h = refl
-holds-lifted (Some (Opaque d)) w h = refl
+pub marks_dir-lifted : (x : Option Mark) (w : Option Entry) → is_dir (see x w) ≡ true → marks_dir (lifted x (see x w)) ≡ true
+marks_dir-lifted None None h = h
+marks_dir-lifted None (Some (entry.File f)) h = h
+marks_dir-lifted None (Some (entry.Dir d)) h = refl
+marks_dir-lifted (Some Whiteout) w h = h
+marks_dir-lifted (Some (File f)) w h = h
+marks_dir-lifted (Some (Dir d)) w h = refl
+marks_dir-lifted (Some (Opaque d)) w h = refl
 
 -- ---- the marks afterwards
 
@@ -95,7 +85,7 @@ module _ (x : Mark) (m : List MarkRow) (e : List Row) (p : Names) where
 
   -- a path that does not lie below is cut off as before
   cut_else : (q : Names) → ((r : Names) (n : List ℕ) (s : Names) → q ≡ r ++ n ∷ s → same r p ≡ true → stops (Some x) ≡ stops (at m p)) → cut (at (written x m e p)) q ≡ cut (at m) q
-  cut_else q h = above_alike stops q false (at (written x m e p)) (at m) (λ r n s g. ⊎_elim (λ y. ap (λ z. stops (at (written x m e p) z)) y.0 ∙ ap stops written-here ∙ h r n s g y.1 ∙ ap (λ z. stops (at m z)) (sym y.0)) (stops_else r) (told r p))
+  cut_else q h = cut_alike (at (written x m e p)) (at m) q (λ r n s g. ⊎_elim (λ y. ap (λ z. stops (at (written x m e p) z)) y.0 ∙ ap stops written-here ∙ h r n s g y.1 ∙ ap (λ z. stops (at m z)) (sym y.0)) (stops_else r) (told r p))
 
   -- not at the path and not below it, nothing is seen to change
   pub seen_apart : (q : Names) → under p q ≡ false → at (merged (written x m e p) e) q ≡ at (merged m e) q
@@ -116,5 +106,5 @@ module _ (x : Mark) (m : List MarkRow) (e : List Row) (p : Names) where
   pub seen_none : (q : Names) → under p q ≡ true → under q p ≡ false → stops (Some x) ≡ true → at m q ≡ None → at (merged (written x m e p) e) q ≡ None
   seen_none q u w s n =
       let d = strictly p q u w in
-      let c : cut (at (written x m e p)) q ≡ true = ap (cut (at (written x m e p))) d.2 ∙ above_at stops p d.0 d.1 false (at (written x m e p)) (ap stops written-here ∙ s) in
+      let c : cut (at (written x m e p)) q ≡ true = ap (cut (at (written x m e p))) d.2 ∙ proper_at (λ r. stops (at (written x m e p) r)) p d.0 d.1 (ap stops written-here ∙ s) in
       at-merged (written x m e p) e q ∙ ap (λ z. see z (unless (cut (at (written x m e p)) q) (at e q))) (written_apart q w ∙ n) ∙ ap (λ b. unless b (at e q)) c

@@ -10,7 +10,7 @@ use Rattle.edits.specs.declared.action.Action.{Action}
 use Rattle.edits.specs.declared.action.Action.TheVariants.{Put, Mkdir, Chmod, Remove}
 use Rattle.marks.specs.declared.mark.Mark.{Mark}
 use Rattle.marks.specs.declared.mark.Mark.TheVariants.{Whiteout, File, Dir, Opaque}
-use Rattle.marks.specs.Marks.{MarkRow, is_opaque, some_above, merged}
+use Rattle.marks.specs.Marks.{MarkRow, is_opaque, some_proper, merged}
 
 -- ---- copy-up
 
@@ -68,12 +68,12 @@ write_some None m e p = m
 write_some (Some x) m e p = written x m e p
 
 -- the tree below has the path, and it would be seen again
-abbrev pub shows_below : List MarkRow → List Row → Names → Bool
-shows_below m e p = has e p && not (some_above is_opaque false (at m) p)
+abbrev pub shows_again : List MarkRow → List Row → Names → Bool
+shows_again m e p = has e p && not (some_proper (λ q. is_opaque (at m q)) p)
 
 -- the rows at the path and below it go; a whiteout hides what would be seen again
 unfoldable pub removed : List MarkRow → List Row → Names → List MarkRow
-removed m e p = cond (shows_below m e p) (written Whiteout (without p m) e p) (without p m)
+removed m e p = cond (shows_again m e p) (written Whiteout (without p m) e p) (without p m)
 
 -- the marks after an edit that is granted
 abbrev pub marked : List MarkRow → List Row → Names → Action → List MarkRow

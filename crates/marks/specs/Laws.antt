@@ -1,7 +1,7 @@
 -- The laws of a layer's marks over a tree, as statements. Assumes nothing.
-use Rattle.std.specs.Prelude.{◌≡◌, ℕ, ◌+◌, ◌≤◌, Bool, true, false, ◌&&◌, ◌||◌, List, [], length, None}
-use Rattle.rows.specs.Maps.{Names, at, ascending}
-use Rattle.trees.specs.Entries.{Row, fine, closed}
+use Rattle.std.specs.Prelude.{◌≡◌, ℕ, ◌+◌, ◌≤◌, true, false, ◌||◌, List, [], length, None}
+use Rattle.rows.specs.Maps.{Names, at}
+use Rattle.trees.specs.Entries.{Row, fine, is_tree}
 use Rattle.edits.specs.declared.action.Action.{Action}
 use Rattle.edits.specs.Edits.{edited, removes, refused_at}
 use Rattle.marks.specs.Marks.{MarkRow, cut, unless, see, merged, layered}
@@ -9,18 +9,14 @@ use Rattle.marks.specs.Edits.{marked, lacks}
 use Rattle.marks.specs.Squash.{over, squashed}
 use Rattle.marks.specs.Plain.{unnoted, granted_plain, plain_of}
 
--- the rows rise, and make a tree
-abbrev pub treed : List Row → Bool
-treed e = ascending e && closed e e
-
 -- with room for so many rows more, the checks grant the edit
 abbrev pub Granted : List MarkRow → List Row → ℕ → Names → Action → Type 0
 Granted m e room p a = refused_at (merged m e) room (lacks m p) p a ≡ None
 
 -- what holds of the marks m of a layer over the entries e of a tree
-pub record Lawful (m : List MarkRow) (e : List Row) (layer : layered m ≡ true) (tree : treed e ≡ true) : Type 0 where
+pub record Lawful (m : List MarkRow) (e : List Row) (layer : layered m ≡ true) (tree : is_tree e ≡ true) : Type 0 where
   -- a layer over a tree is a tree
-  pub is_tree : treed (merged m e) ≡ true
+  pub merged_tree : is_tree (merged m e) ≡ true
   -- at each path it has what the mark there sets; without a mark, what the tree below has there, unless a mark above cuts it off
   pub has_at : (p : Names) → at (merged m e) p ≡ see (at m p) (unless (cut (at m) p) (at e p))
   -- a granted edit at a good path leaves a layer
@@ -51,7 +47,7 @@ pub record SquashLaws (u l : List MarkRow) (upper : layered u ≡ true) (lower :
   -- it cuts off what either layer cuts off
   pub cuts : (p : Names) → cut (at (squashed u l)) p ≡ (cut (at u) p || cut (at l) p)
   -- laid over a tree, it has the entries of the two laid one over the other
-  pub lays : (e : List Row) → treed e ≡ true → merged (squashed u l) e ≡ merged u (merged l e)
+  pub lays : (e : List Row) → is_tree e ≡ true → merged (squashed u l) e ≡ merged u (merged l e)
   -- of three layers it does not matter which two are squashed first
   pub associates : (k : List MarkRow) → layered k ≡ true → squashed (squashed u l) k ≡ squashed u (squashed l k)
   -- the layer without rows changes nothing, above or below

@@ -41,12 +41,12 @@ is_opaque (Some (Dir d)) = false
 is_opaque (Some (Opaque d)) = true
 
 -- the mark is of a directory
-abbrev pub holds : Option Mark → Bool
-holds None = false
-holds (Some Whiteout) = false
-holds (Some (File f)) = false
-holds (Some (Dir d)) = true
-holds (Some (Opaque d)) = true
+abbrev pub marks_dir : Option Mark → Bool
+marks_dir None = false
+marks_dir (Some Whiteout) = false
+marks_dir (Some (File f)) = false
+marks_dir (Some (Dir d)) = true
+marks_dir (Some (Opaque d)) = true
 
 abbrev pub ranged : Mark → Bool
 ranged Whiteout = true
@@ -60,14 +60,14 @@ ranged (Opaque d) = in_range (entry.Dir d)
 abbrev pub below : {N V : Type 0} → (List N → V) → N → List N → V
 below f n q = f (n ∷ q)
 
--- b, or a proper prefix of the path passes the test
-abbrev pub some_above : {N : Type 0} → (Option Mark → Bool) → Bool → (List N → Option Mark) → List N → Bool
-some_above t b m [] = b
-some_above t b m (n ∷ p) = some_above t (b || t (m [])) (below m n) p
+-- a proper prefix of the path passes the test
+abbrev pub some_proper : {N : Type 0} → (List N → Bool) → List N → Bool
+some_proper t [] = false
+some_proper t (n ∷ p) = t [] || some_proper (below t n) p
 
 -- the layer cuts the path off: a proper prefix of it is a whiteout, a file or opaque
 abbrev pub cut : {N : Type 0} → (List N → Option Mark) → List N → Bool
-cut m p = some_above stops false m p
+cut m p = some_proper (λ q. stops (m q)) p
 
 abbrev pub unless : {V : Type 0} → Bool → Option V → Option V
 unless true y = None
@@ -90,7 +90,7 @@ merged m e = build (laid see (at m) (at e)) (union (keys m) (keys e))
 
 -- each path is good, its entry is in range, and its parent is marked as a directory; the root is its own parent
 abbrev pub sound : List MarkRow → List MarkRow → Bool
-sound all rs = grown ranged holds all rs
+sound all rs = grown ranged marks_dir all rs
 
 abbrev pub layered : List MarkRow → Bool
 layered m = ascending m && sound m m

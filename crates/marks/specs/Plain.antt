@@ -1,5 +1,5 @@
 -- The same session seen from outside: a plain map, which keeps two sets of paths beside its entries. Assumes nothing.
-use Rattle.std.specs.Prelude.{ℕ, suc, Bool, false, cond, not, ◌&&◌, ◌||◌, List, [], ◌∷◌, Some}
+use Rattle.std.specs.Prelude.{ℕ, suc, Bool, cond, not, ◌&&◌, List, [], ◌∷◌, Some}
 use Rattle.paths.specs.Names.{prefixes}
 use Rattle.rows.specs.Maps.{Names, has, under}
 use Rattle.rows.specs.Builds.{among, add, union, keys}
@@ -7,7 +7,7 @@ use Rattle.trees.specs.Entries.{Row}
 use Rattle.edits.specs.declared.action.Action.{Action}
 use Rattle.edits.specs.declared.action.Action.TheVariants.{Put, Mkdir, Chmod, Remove}
 use Rattle.edits.specs.Edits.{edited}
-use Rattle.marks.specs.Marks.{MarkRow, is_opaque, below, merged}
+use Rattle.marks.specs.Marks.{MarkRow, is_opaque, some_proper, merged}
 
 -- the entries of the tree below, its own entries, and the paths noted and remade
 pub record Plain : Type 0 where
@@ -26,11 +26,6 @@ note p ns = union (prefixes p) ns
 abbrev pub clear : Names → List Names → List Names
 clear p [] = []
 clear p (k ∷ ks) = cond (under p k) (clear p ks) (k ∷ clear p ks)
-
--- a proper prefix of the path passes the test
-abbrev pub some_proper : {N : Type 0} → (List N → Bool) → List N → Bool
-some_proper t [] = false
-some_proper t (n ∷ p) = t [] || some_proper (below t n) p
 
 abbrev pub missing : List Names → List Names → ℕ
 missing ns [] = 0

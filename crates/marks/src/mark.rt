@@ -1,6 +1,6 @@
 // What a layer says of a path.
 ghost use Rattle.std.specs.Prelude.{◌≡◌, Some};
-ghost use Rattle.marks.specs.Marks.{entry_of, mark_of, stops, is_opaque};
+ghost use Rattle.marks.specs.Marks.{entry_of, mark_of, stops, is_opaque, marks_dir};
 ghost use Rattle.marks.specs.Squash.{over};
 
 use trees::entry::{DirMeta, Entry, FileMeta};
@@ -26,6 +26,13 @@ impl Mark {
             Mark::File(file) => Some(Entry::File(file)),
             Mark::Dir(dir) | Mark::Opaque(dir) => Some(Entry::Dir(dir)),
         }
+    }
+
+    // Whether the mark is of a directory, opaque or not.
+    pub fn is_dir(self) -> bool
+        ensures { result ≡ marks_dir (Some self) }
+    {
+        matches!(self, Mark::Dir(_) | Mark::Opaque(_))
     }
 
     // Whether nothing below is seen under the path.

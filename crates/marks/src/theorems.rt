@@ -1,12 +1,12 @@
 // The laws of marks.
 ghost use Rattle.std.specs.Prelude.{◌≡◌, true, List};
-ghost use Rattle.trees.specs.Entries.{Row};
+ghost use Rattle.trees.specs.Entries.{Row, is_tree};
 ghost use Rattle.marks.specs.Marks.{MarkRow, layered};
-ghost use Rattle.marks.specs.Laws.{treed, Lawful, SquashLaws};
+ghost use Rattle.marks.specs.Laws.{Lawful, SquashLaws};
 
 // They hold of every layer over every tree.
 pub fn laws_stand()
-    ensures { (m : List MarkRow) (e : List Row) (layer : layered m ≡ true) (tree : treed e ≡ true) → Lawful m e layer tree }
+    ensures { (m : List MarkRow) (e : List Row) (layer : layered m ≡ true) (tree : is_tree e ≡ true) → Lawful m e layer tree }
 {}
 
 // Those of a squash hold of any two layers.

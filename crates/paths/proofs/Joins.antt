@@ -43,7 +43,7 @@ pieces-append (b ∷ bs) s = go (eqb b 47) (pieces-append bs s) where
 pub head_more : (b : ℕ) (bs : List ℕ) → pieces 47 bs ≡ bs ∷ [] → ◌≡◌ {A = List (List ℕ)} ((b ∷ front 47 bs) ∷ later 47 bs) ((b ∷ bs) ∷ [])
 head_more b bs h = cc
 
-pub pieces-plain : (n : List ℕ) → plain n ≡ true → pieces 47 n ≡ n ∷ []
+pieces-plain : (n : List ℕ) → plain n ≡ true → pieces 47 n ≡ n ∷ []
 pieces-plain [] h = refl
 pieces-plain (b ∷ bs) h =
     let p = (and_parts (not (eqb b 0) && leb b 255) (not (eqb b 47) && plain bs) h).1 in
@@ -59,13 +59,13 @@ pub not_empty : (p : List (List ℕ)) (n : List ℕ) (rest : List (List ℕ)) �
 not_empty [] n rest h = h.0.0
 not_empty (m ∷ p) n rest h = not_empty p n rest h.1
 
-pub pieces-join : (n : List ℕ) (ns : List (List ℕ)) → Plain (n ∷ ns) → pieces 47 (join (n ∷ ns)) ≡ n ∷ ns
+pieces-join : (n : List ℕ) (ns : List (List ℕ)) → Plain (n ∷ ns) → pieces 47 (join (n ∷ ns)) ≡ n ∷ ns
 pieces-join n [] h = pieces-plain n h.0.1
 pieces-join n (m ∷ ns) h =
     pieces-append n (join (m ∷ ns)) ∙ (λ i. pieces-plain n h.0.1 i ++ pieces-join m ns h.1 i)
 
 -- a path with a name is not the root
-pub join-some : (n : List ℕ) (ns : List (List ℕ)) → 0 < length n → 0 < length (join (n ∷ ns))
+join-some : (n : List ℕ) (ns : List (List ℕ)) → 0 < length n → 0 < length (join (n ∷ ns))
 join-some [] ns h = absurd (omega arith)
 join-some (b ∷ n) ns h = subst (λ l. 0 < length l) (sym (join-cons b n ns)) (omega arith)
 
@@ -101,7 +101,7 @@ plain-from-fault k (n ∷ ns) h =
     let g = name_parts n f.1 in
     ((g.0, g.2), plain-from-fault (k + 1) ns f.2)
 
-pub fault-from_parts : (k : ℕ) (n : List ℕ) (ns : List (List ℕ)) → k < 8 → good_name n ≡ true → fault_in k (n ∷ ns) ≡ fault_in (k + 1) ns
+fault-from_parts : (k : ℕ) (n : List ℕ) (ns : List (List ℕ)) → k < 8 → good_name n ≡ true → fault_in k (n ∷ ns) ≡ fault_in (k + 1) ns
 fault-from_parts k n ns h g = cond-false (leb 8 k) _ _ (lt-leb 8 k h) ∙ cond-true (good_name n) _ _ g
 
 -- one name alone, and the first of several
@@ -131,13 +131,13 @@ good_parts s h = go (leb (length s) 120) refl (not-true _ h) where
   go true e h = (leb-true (length s) 120 e, h)
   go false e h = absurd (true≢false h)
 
-pub good-from : (s : List ℕ) → length s ≤ 120 → is_some (fault_in 0 (split s)) ≡ false → good s ≡ true
+good-from : (s : List ℕ) → length s ≤ 120 → is_some (fault_in 0 (split s)) ≡ false → good s ≡ true
 good-from s l h = ap not (ap is_some (cond-true (leb (length s) 120) (fault_in 0 (split s)) (Some TooLong) (le-leb (length s) 120 l)) ∙ h)
 
 -- ---- prefixes
 
 -- what stands after the first k names, with its `/`
-pub join-take : (k : ℕ) (ns : List (List ℕ)) → (rest : List ℕ) × (join ns ≡ join (take k ns) ++ rest)
+join-take : (k : ℕ) (ns : List (List ℕ)) → (rest : List ℕ) × (join ns ≡ join (take k ns) ++ rest)
 join-take zero ns = (join ns, refl)
 join-take (suc k) [] = ([], refl)
 join-take (suc k) (n ∷ []) = ([], sym (append-nil n) ∙ ap (λ l. join (n ∷ l) ++ []) (sym (take-nil k)))
@@ -153,7 +153,7 @@ module _ (s : List ℕ) (k : ℕ) where
       let h = join-take k (split s) in
       ap (take (length (join (take k (split s))))) (sym (join_split s) ∙ h.1) ∙ take_at (join (take k (split s))) h.0 _ refl
 
-  pub cut_long : length (join (take k (split s))) ≤ length s
+  cut_long : length (join (take k (split s))) ≤ length s
   cut_long =
       let h = join-take k (split s) in
       omega (arith, length-append (join (take k (split s))) h.0, ap length (sym (join_split s) ∙ h.1))
@@ -196,7 +196,7 @@ join-child [] name h = absurd (omega arith)
 join-child (b ∷ bs) name h =
     join-append (front 47 (b ∷ bs)) name (later 47 (b ∷ bs)) [] ∙ ap (λ l. l ++ 47 ∷ name) (join-pieces (b ∷ bs))
 
-pub join_first : (s name : List ℕ) → length s ≡ 0 → join (split s ++ name ∷ []) ≡ name
+join_first : (s name : List ℕ) → length s ≡ 0 → join (split s ++ name ∷ []) ≡ name
 join_first [] name h = refl
 join_first (b ∷ bs) name h = absurd (omega arith)
 
@@ -205,10 +205,10 @@ module _ (s name : List ℕ) (g : good s ≡ true) (few : length (split s) < 8) 
   all_good =
       ap is_some (fault-append 0 (split s) (name ∷ []) (good_parts s g).1 ∙ ap (λ j. fault_in j (name ∷ [])) (zero-add (length (split s))) ∙ fault-from_parts (length (split s)) name [] few ok)
 
-  pub child-names : split (join (split s ++ name ∷ [])) ≡ split s ++ name ∷ []
+  child-names : split (join (split s ++ name ∷ [])) ≡ split s ++ name ∷ []
   child-names = split_join _ (plain-from-fault 0 _ all_good)
 
-  pub child-good : length (join (split s ++ name ∷ [])) ≤ 120 → good (join (split s ++ name ∷ [])) ≡ true
+  child-good : length (join (split s ++ name ∷ [])) ≤ 120 → good (join (split s ++ name ∷ [])) ≡ true
   child-good l = good-from _ l (ap (λ ns. is_some (fault_in 0 ns)) child-names ∙ all_good)
 
 pub child_long : (s name : List ℕ) → length (join (split s ++ name ∷ [])) ≡ cond (eqb (length s) 0) (length name) (length s + 1 + length name)
@@ -267,7 +267,7 @@ goes_further : (a s : List ℕ) → goes_on a (a ++ 47 ∷ s) ≡ true
 goes_further [] s = refl
 goes_further (x ∷ a) s = ap (λ t. t && goes_on a (a ++ 47 ∷ s)) (eq-eqb x x refl) ∙ goes_further a s
 
-pub under-from : (x : ℕ) (a b : List ℕ) → goes_on (x ∷ a) b ≡ true → Under (split (x ∷ a)) (split b)
+under-from : (x : ℕ) (a b : List ℕ) → goes_on (x ∷ a) b ≡ true → Under (split (x ∷ a)) (split b)
 under-from x a b h =
     ⊎_elim
     (λ e. ([], ap split e ∙ sym (append-nil (split (x ∷ a)))))
@@ -291,7 +291,7 @@ pub prefixes_long : (ns : List (List ℕ)) → length (prefixes ns) ≡ suc (len
 prefixes_long [] = refl
 prefixes_long (n ∷ ns) = ap suc (length-map (prefixes ns) (λ p. n ∷ p) ∙ prefixes_long ns)
 
-pub prefixes-at : (ns : List (List ℕ)) (k : ℕ) → k ≤ length ns → get_or (prefixes ns) k [] ≡ take k ns
+prefixes-at : (ns : List (List ℕ)) (k : ℕ) → k ≤ length ns → get_or (prefixes ns) k [] ≡ take k ns
 prefixes-at [] zero h = refl
 prefixes-at [] (suc k) h = absurd (omega arith)
 prefixes-at (n ∷ ns) zero h = refl
@@ -312,7 +312,7 @@ module _ (ns : List (List ℕ)) (name : List ℕ) where
   child_short h = cond-true (leb (length (join (ns ++ name ∷ []))) 120) _ _ (le-leb _ 120 h)
 
 -- what it says that one more name has no fault
-pub child_parts : (ns : List (List ℕ)) (name : List ℕ) → child_fault ns name ≡ None → (length (join (ns ++ name ∷ [])) ≤ 120) × (length ns < 8) × (good_name name ≡ true)
+child_parts : (ns : List (List ℕ)) (name : List ℕ) → child_fault ns name ≡ None → (length (join (ns ++ name ∷ [])) ≤ 120) × (length ns < 8) × (good_name name ≡ true)
 child_parts ns name h = go (leb (length (join (ns ++ name ∷ []))) 120) refl h where
   go : (t : Bool) → leb (length (join (ns ++ name ∷ []))) 120 ≡ t → cond t (fault_in (length ns) (name ∷ [])) (Some TooLong) ≡ None → (length (join (ns ++ name ∷ [])) ≤ 120) × (length ns < 8) × (good_name name ≡ true)
   go true e h =

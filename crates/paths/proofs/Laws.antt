@@ -29,7 +29,7 @@ module _ (x y : ℕ) (xs ys : List ℕ) (p : 0 < x) (q : 0 < y) (more : by_names
       ap (λ k. ordering_then k (by_weight xs ys)) (sym (cond-false (ltb x 0) _ _ (le-ltb x 0 (omega arith)) ∙ cond-false (eqb x 0) Equal Greater (ne_eqb x 0 (omega arith))))
   step false false = then_assoc (nat_cmp x y) _ _ ∙ ap (λ k. ordering_then (nat_cmp x y) k) more
 
-pub pieces-order : (a b : List ℕ) → NoZero a → NoZero b → by_names (pieces 47 a) (pieces 47 b) ≡ by_weight a b
+pieces-order : (a b : List ℕ) → NoZero a → NoZero b → by_names (pieces 47 a) (pieces 47 b) ≡ by_weight a b
 pieces-order [] [] p q = refl
 pieces-order [] (y ∷ ys) p q =
     elim (eqb y 47) as (λ u. ordering_then (by_bytes [] (cond u [] (y ∷ front 47 ys))) (by_names [] (cond u (pieces 47 ys) (later 47 ys))) ≡ Less) [ true ↦ refl | false ↦ refl ]
@@ -54,7 +54,7 @@ module _ {K : Type 0} {R : K → K → Ordering} (o : IsTotalOrder R) where
   itself x = tied_itself o x
 
   module _ (exact : (x y : K) → R x y ≡ Equal → x ≡ y) where
-    pub lex_exact : (xs ys : List K) → slice_cmp R xs ys ≡ Equal → xs ≡ ys
+    lex_exact : (xs ys : List K) → slice_cmp R xs ys ≡ Equal → xs ≡ ys
     lex_exact [] [] h = refl
     lex_exact [] (y ∷ ys) h = absurd (true≢false (ap is_lt h))
     lex_exact (x ∷ xs) [] h = absurd (true≢false (ap is_gt h))
@@ -65,7 +65,7 @@ module _ {K : Type 0} {R : K → K → Ordering} (o : IsTotalOrder R) where
       go Greater e f g = absurd (true≢false (ap is_gt g))
 
     -- what begins with p is all that lies between p and what begins with p
-    pub lex_between : (p q r rest : List K) → is_le (slice_cmp R p q) ≡ true → is_le (slice_cmp R q r) ≡ true → r ≡ p ++ rest → (more : List K) × (q ≡ p ++ more)
+    lex_between : (p q r rest : List K) → is_le (slice_cmp R p q) ≡ true → is_le (slice_cmp R q r) ≡ true → r ≡ p ++ rest → (more : List K) × (q ≡ p ++ more)
     lex_between [] q r rest h g e = (q, refl)
     lex_between (x ∷ p) [] r rest h g e = absurd (true≢false (sym h))
     lex_between (x ∷ p) (y ∷ q) [] rest h g e = absurd (true≢false (sym g))

@@ -62,7 +62,7 @@ span_go b bs n e =
     (λ j. length (join (take (suc n) (front_go 47 b bs e j ∷ later_go 47 b bs e j)))) ∙ ap length (join-cons b (front 47 bs) (take n (later 47 bs)))
 
 -- the places of the bytes `/`, where the first byte stands at i
-abbrev pub slashes : ℕ → List ℕ → List (ℕ × ℕ)
+abbrev slashes : ℕ → List ℕ → List (ℕ × ℕ)
 slashes i s = filter (λ p. eqb p.1 47) (enumerate_from i s)
 
 abbrev pub place_or : ℕ → Option (ℕ × ℕ) → ℕ

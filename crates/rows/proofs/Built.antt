@@ -11,6 +11,7 @@ use Rattle.paths.proofs.Laws.{itself, names-exact}
 use Rattle.rows.specs.Maps.{Names, first, is_at, at, has, above, ascending}
 use Rattle.rows.specs.Builds.{same, among, put_by, add, union, keys, row, build, set_at}
 use Rattle.rows.proofs.Orders.{is-less}
+use Rattle.std.proofs.lemmas.Option.{none-some, same_Some}
 
 -- ---- paths
 
@@ -202,9 +203,6 @@ module _ {V : Type 0} where
   at_first : (r : Names × V) (rs : List (Names × V)) → at (r ∷ rs) r.0 ≡ Some r.1
   at_first r rs = at-cons r rs r.0 ∙ cond-true (same r.0 r.0) (Some r.1) (at rs r.0) (same-itself r.0)
 
-  some≢none : (v : V) → ◌≡◌ {A = Option V} (Some v) None → ⊥
-  some≢none v e = true≢false (ap is_some e)
-
   -- the look-ups in the tails
   at_rest : (r s : Names × V) (rs ss : List (Names × V)) → r.0 ≡ s.0 → Above r.0 (keys rs) → Above s.0 (keys ss) → (q : Names) → at (r ∷ rs) q ≡ at (s ∷ ss) q → at rs q ≡ at ss q
   at_rest r s rs ss e a b q h =
@@ -213,24 +211,24 @@ module _ {V : Type 0} where
       (λ n. sym (at-cons r rs q ∙ cond-false (same q r.0) (Some r.1) (at rs q) n) ∙ (h ∙ (at-cons s ss q ∙ cond-false (same q s.0) (Some s.1) (at ss q) (sym (ap (same q) e) ∙ n))))
       (told q r.0)
 
-  same_some : (v w : V) → ◌≡◌ {A = Option V} (Some v) (Some w) → v ≡ w
+  pub same_some : (v w : V) → ◌≡◌ {A = Option V} (Some v) (Some w) → v ≡ w
   same_some v w e = cc
 
   same-keyed : (m n : List (Names × V)) → Ascends (keys m) → Ascends (keys n) → ((q : Names) → at m q ≡ at n q) → m ≡ n
   same-keyed [] [] a b h = refl
-  same-keyed [] (s ∷ ss) a b h = absurd (some≢none s.1 (sym (h s.0 ∙ at_first s ss)))
-  same-keyed (r ∷ rs) [] a b h = absurd (some≢none r.1 (sym (at_first r rs) ∙ h r.0))
+  same-keyed [] (s ∷ ss) a b h = absurd (none-some s.1 (h s.0 ∙ at_first s ss))
+  same-keyed (r ∷ rs) [] a b h = absurd (none-some r.1 (sym (h r.0) ∙ at_first r rs))
   same-keyed (r ∷ rs) (s ∷ ss) a b h = go (by_names r.0 s.0) refl (same-keyed rs ss a.1 b.1) where
     go : (k : Ordering) → by_names r.0 s.0 ≡ k → (((q : Names) → at rs q ≡ at ss q) → rs ≡ ss) → ◌≡◌ {A = List (Names × V)} (r ∷ rs) (s ∷ ss)
-    go Less e f = absurd (some≢none r.1 (sym (at_first r rs) ∙ (h r.0 ∙ above-none r.0 (s ∷ ss) (e, above_chain r.0 s.0 (keys ss) e b.0))))
+    go Less e f = absurd (none-some r.1 (sym (h r.0 ∙ above-none r.0 (s ∷ ss) (e, above_chain r.0 s.0 (keys ss) e b.0)) ∙ at_first r rs))
     go Equal e f =
         let k = names-exact r.0 s.0 e in
-        let v = same_some r.1 s.1 (sym (at_first r rs) ∙ (h r.0 ∙ (ap (at (s ∷ ss)) k ∙ at_first s ss))) in
+        let v = same_Some r.1 s.1 (sym (at_first r rs) ∙ (h r.0 ∙ (ap (at (s ∷ ss)) k ∙ at_first s ss))) in
         let t = f (λ q. at_rest r s rs ss k a.0 b.0 q (h q)) in
         λ i. (k i, v i) ∷ t i
     go Greater e f =
         let l = flip s.0 r.0 ∙ ap ordering_reverse e in
-        absurd (some≢none s.1 (sym (at_first s ss) ∙ (sym (h s.0) ∙ above-none s.0 (r ∷ rs) (l, above_chain s.0 r.0 (keys rs) l a.0))))
+        absurd (none-some s.1 (sym (sym (h s.0) ∙ above-none s.0 (r ∷ rs) (l, above_chain s.0 r.0 (keys rs) l a.0)) ∙ at_first s ss))
 
   -- rows that rise and answer alike are the same rows
   pub same_rows : (m n : List (Names × V)) → ascending m ≡ true → ascending n ≡ true → ((q : Names) → at m q ≡ at n q) → m ≡ n

@@ -3,11 +3,11 @@ use Rattle.rows.proofs.Risen.{in_left, in_right}
 use Rattle.std.proofs.Common.{◌≡◌, ◌+◌, Bool, true, false, cond, not, ◌&&◌, List, [], ◌∷◌, ◌++◌, map, length, take, drop, is_some, Some, None, Decides, Option, sym, refl, ap, ◌∙◌, inl, inr, ⊎_elim, append-nil, arith}
 use Rattle.std.proofs.lemmas.List.{length-append, length-take, length-drop, take-append-drop}
 use Rattle.std.proofs.lemmas.Bool.{true≢false, and_from}
-use Rattle.std.specs.Option.{option_map}
+use Rattle.std.specs.Option.{option_map, option_or}
 use Rattle.std.specs.Ordering.{is_eq}
 use Rattle.paths.specs.Names.{Under}
 use Rattle.paths.specs.Order.{by_names}
-use Rattle.rows.specs.Maps.{Names, before, under, is_at, at, above, ascending, only, without, replaced, or_else}
+use Rattle.rows.specs.Maps.{Names, before, under, is_at, at, above, ascending, only, without, replaced}
 use Rattle.rows.specs.Builds.{same}
 use Rattle.rows.specs.Positions.{lead}
 use Rattle.rows.specs.Tables.{spliced}
@@ -122,24 +122,24 @@ module _ {V : Type 0} where
   front-before (z ∷ xs) ys up x y i j =
       ⊎_elim (λ s. ap (λ w. before w.0 y.0) s ∙ head_least z (xs ++ ys) up y (in_right xs ys y j)) (λ k. front-before xs ys (tail-ascends z (xs ++ ys) up) x y k j) i
 
-  pub at-append : (xs ys : List (Names × V)) (q : Names) → at (xs ++ ys) q ≡ or_else (at xs q) (at ys q)
+  pub at-append : (xs ys : List (Names × V)) (q : Names) → at (xs ++ ys) q ≡ option_or (at xs q) (at ys q)
   at-append [] ys q = refl
-  at-append (x ∷ xs) ys q = at-cons x (xs ++ ys) q ∙ go (is_at q x) (at-append xs ys q) ∙ ap (λ o. or_else o (at ys q)) (sym (at-cons x xs q)) where
-    go : (a : Bool) → at (xs ++ ys) q ≡ or_else (at xs q) (at ys q) → cond a (Some x.1) (at (xs ++ ys) q) ≡ or_else (cond a (Some x.1) (at xs q)) (at ys q)
+  at-append (x ∷ xs) ys q = at-cons x (xs ++ ys) q ∙ go (is_at q x) (at-append xs ys q) ∙ ap (λ o. option_or o (at ys q)) (sym (at-cons x xs q)) where
+    go : (a : Bool) → at (xs ++ ys) q ≡ option_or (at xs q) (at ys q) → cond a (Some x.1) (at (xs ++ ys) q) ≡ option_or (cond a (Some x.1) (at xs q)) (at ys q)
     go true more = refl
     go false more = more
 
-  swap : (a b c : Option V) → ((x y : V) → a ≡ Some x → b ≡ Some y → ⊥) → or_else a (or_else b c) ≡ or_else b (or_else a c)
+  swap : (a b c : Option V) → ((x y : V) → a ≡ Some x → b ≡ Some y → ⊥) → option_or a (option_or b c) ≡ option_or b (option_or a c)
   swap None b c h = refl
   swap (Some x) None c h = refl
   swap (Some x) (Some y) c h = absurd (h x y refl refl)
 
-  at-between : (front new back : List (Names × V)) (q : Names) → ascending (front ++ (new ++ back)) ≡ true → at (front ++ (new ++ back)) q ≡ or_else (at new q) (at (front ++ back) q)
+  at-between : (front new back : List (Names × V)) (q : Names) → ascending (front ++ (new ++ back)) ≡ true → at (front ++ (new ++ back)) q ≡ option_or (at new q) (at (front ++ back) q)
   at-between front new back q up =
       at-append front (new ++ back) q
-      ∙ ap (or_else (at front q)) (at-append new back q)
+      ∙ ap (option_or (at front q)) (at-append new back q)
       ∙ swap (at front q) (at new q) (at back q) apart
-      ∙ ap (or_else (at new q)) (sym (at-append front back q)) where
+      ∙ ap (option_or (at new q)) (sym (at-append front back q)) where
         apart : (x y : V) → at front q ≡ Some x → at new q ≡ Some y → ⊥
         apart x y e f = not_before_self q (front-before front (new ++ back) up (q, x) (q, y) (at-holds front q x e) (in_left new back (q, y) (at-holds new q y f)))
 
@@ -147,15 +147,15 @@ module _ {V : Type 0} where
   pub at-last : (rs : List (Names × V)) (r : Names × V) (q : Names) → ascending (rs ++ r ∷ []) ≡ true → at (rs ++ r ∷ []) q ≡ cond (same q r.0) (Some r.1) (at rs q)
   at-last rs r q up =
       at-between rs (r ∷ []) [] q up
-      ∙ ap (λ o. or_else o (at (rs ++ []) q)) (at-cons r [] q)
-      ∙ ap (λ xs. or_else (cond (same q r.0) (Some r.1) None) (at xs q)) (append-nil rs)
-      ∙ elim (same q r.0) as (λ t. or_else (cond t (Some r.1) None) (at rs q) ≡ cond t (Some r.1) (at rs q)) [ true ↦ refl | false ↦ refl ]
+      ∙ ap (λ o. option_or o (at (rs ++ []) q)) (at-cons r [] q)
+      ∙ ap (λ xs. option_or (cond (same q r.0) (Some r.1) None) (at xs q)) (append-nil rs)
+      ∙ elim (same q r.0) as (λ t. option_or (cond t (Some r.1) None) (at rs q) ≡ cond t (Some r.1) (at rs q)) [ true ↦ refl | false ↦ refl ]
 
-  pub at-spliced : (new rs : List (Names × V)) (q : Names) → ascending (spliced new rs) ≡ true → at (spliced new rs) q ≡ or_else (at new q) (at rs q)
+  pub at-spliced : (new rs : List (Names × V)) (q : Names) → ascending (spliced new rs) ≡ true → at (spliced new rs) q ≡ option_or (at new q) (at rs q)
   at-spliced [] rs q up = refl
   at-spliced (n ∷ new) rs q up =
       at-between (take (lead n.0 rs) rs) (n ∷ new) (drop (lead n.0 rs) rs) q up
-      ∙ ap (λ xs. or_else (at (n ∷ new) q) (at xs q)) (take-append-drop (lead n.0 rs) rs)
+      ∙ ap (λ xs. option_or (at (n ∷ new) q) (at xs q)) (take-append-drop (lead n.0 rs) rs)
 
   pub length-spliced : (new rs : List (Names × V)) → length (spliced new rs) ≡ length rs + length new
   length-spliced [] rs = omega arith

@@ -5,9 +5,7 @@ use Rattle.std.specs.Option.{option_map}
 use Rattle.paths.specs.Names.{parent}
 use Rattle.rows.specs.Maps.{Names, before, first, is_at, at, has, above, ascending, rooted}
 use Rattle.rows.proofs.Orders.{before-trans, not_before_self, same-is, is_same, parent-child}
-
-some_one : {A : Type 0} {P : Type 0} (x : A) → ◌≡◌ {A = Option A} (Some x) None → P
-some_one x e = absurd (true≢false (ap is_some e))
+use Rattle.std.proofs.lemmas.Option.{none-some}
 
 module _ {V : Type 0} where
   abbrev pub In : List (Names × V) → Names × V → Type 0
@@ -15,7 +13,7 @@ module _ {V : Type 0} where
   In (x ∷ rs) r = (r ≡ x) ⊎ In rs r
 
   pub first_some : (t : Names × V → Bool) (rs : List (Names × V)) (r : Names × V) → first t rs ≡ Some r → In rs r × (t r ≡ true)
-  first_some t [] r h = some_one r (sym h)
+  first_some t [] r h = absurd (none-some r h)
   first_some t (x ∷ rs) r h = go (t x) refl (first_some t rs r) h where
     go : (b : Bool) → t x ≡ b → (first t rs ≡ Some r → In rs r × (t r ≡ true)) → cond b (Some x) (first t rs) ≡ Some r → In (x ∷ rs) r × (t r ≡ true)
     go true e more h =
@@ -27,7 +25,7 @@ module _ {V : Type 0} where
   first-none t [] h r i = absurd i
   first-none t (x ∷ rs) h r i = go (t x) refl (λ g. first-none t rs g r) h where
     go : (b : Bool) → t x ≡ b → (first t rs ≡ None → In rs r → t r ≡ false) → cond b (Some x) (first t rs) ≡ None → t r ≡ false
-    go true e more h = some_one x h
+    go true e more h = absurd (none-some x (sym h))
     go false e more h = ⊎_elim (λ s. ap t s ∙ e) (more h) i
 
   pub head_least : (r : Names × V) (rs : List (Names × V)) → ascending (r ∷ rs) ≡ true → (x : Names × V) → In rs x → before r.0 x.0 ≡ true
@@ -71,7 +69,7 @@ module _ {V : Type 0} where
   pub at-holds : (rs : List (Names × V)) (p : Names) (e : V) → at rs p ≡ Some e → In rs (p, e)
   at-holds rs p e h = go (first (is_at p) rs) refl h where
     go : (o : Option (Names × V)) → first (is_at p) rs ≡ o → option_map (λ r. r.1) o ≡ Some e → In rs (p, e)
-    go None f h = some_one e (sym h)
+    go None f h = absurd (none-some e h)
     go (Some r) f h =
         let d = first_some (is_at p) rs r f in
         let k = same-is r.0 p d.1 in

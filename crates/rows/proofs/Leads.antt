@@ -90,7 +90,7 @@ module _ {V : Type 0} where
 
   -- ---- the row at a path
 
-  abbrev pub value_in : Names → Option (Row V) → Option V
+  abbrev value_in : Names → Option (Row V) → Option V
   value_in p None = None
   value_in p (Some r) = cond (is_at p (row_of r)) (Some r.value) None
 

@@ -20,10 +20,10 @@ less a b = is_lt (by_bytes a b)
 pub less-trans : (a b c : List ℕ) → less a b ≡ true → less b c ≡ true → less a c ≡ true
 less-trans a b c h g = ap is_lt ((lists_total nat_cmp_total).trans a b c (is-less _ h) (is-less _ g))
 
-pub not-less_self : (a : List ℕ) → less a a ≡ false
+not-less_self : (a : List ℕ) → less a a ≡ false
 not-less_self a = ap is_lt (itself (lists_total nat_cmp_total) a)
 
-pub told_names : (a b : List ℕ) → (less a b ≡ true) ⊎ ((a ≡ b) ⊎ (less b a ≡ true))
+told_names : (a b : List ℕ) → (less a b ≡ true) ⊎ ((a ≡ b) ⊎ (less b a ≡ true))
 told_names a b = go (by_bytes a b) refl where
   go : (k : Ordering) → by_bytes a b ≡ k → (less a b ≡ true) ⊎ ((a ≡ b) ⊎ (less b a ≡ true))
   go Less e = inl (ap is_lt e)
@@ -50,7 +50,7 @@ abbrev pub Least : (List ℕ → Bool) → List ℕ → Option (List ℕ) → Ty
 Least h a None = (k : List ℕ) → less a k ≡ true → h k ≡ false
 Least h a (Some n) = (h n ≡ true) × (less a n ≡ true) × ((k : List ℕ) → less a k ≡ true → less k n ≡ true → h k ≡ false)
 
-pub least_unique : (h : List ℕ → Bool) (a : List ℕ) (o w : Option (List ℕ)) → Least h a o → Least h a w → o ≡ w
+least_unique : (h : List ℕ → Bool) (a : List ℕ) (o w : Option (List ℕ)) → Least h a o → Least h a w → o ≡ w
 least_unique h a None None f g = refl
 least_unique h a None (Some j) f g = absurd (both_ways (h j) (f j g.1) g.0)
 least_unique h a (Some n) None f g = absurd (both_ways (h n) (g n f.1) f.0)

@@ -5,15 +5,15 @@ use Rattle.std.proofs.Math.Bool.{and-true}
 use Rattle.std.proofs.lemmas.Bool.{true≢false, or_parts, cond-true, cond-false}
 use Rattle.std.specs.Cmp.{nat_cmp_total}
 use Rattle.std.specs.Cmp.Lexicographic.{lists_total}
-use Rattle.std.specs.Option.{option_map}
+use Rattle.std.specs.Option.{option_map, option_or}
 use Rattle.std.specs.Ordering.{is_lt, is_eq, ordering_reverse}
 use Rattle.paths.specs.Order.{by_names}
-use Rattle.rows.specs.Maps.{Names, at, has, ascending, only, replaced, or_else}
+use Rattle.rows.specs.Maps.{Names, at, has, ascending, only, replaced}
 use Rattle.rows.specs.Builds.{same, among, put_by, add, keys, set_at}
 use Rattle.rows.specs.Positions.{lead}
 use Rattle.rows.specs.Tables.{spliced, splices}
 use Rattle.rows.proofs.Built.{told, at-cons, among-has, at_set, ascending_set, ascends-add, ascends-keys, keys_ascend, same_rows, Ascends}
-use Rattle.rows.proofs.Changed.{at-replaced, ascending-replaced, keys-replaced, replaced-none, at-spliced, length-spliced}
+use Rattle.rows.proofs.Changed.{at-replaced, ascending-replaced, keys-replaced, at-spliced, length-spliced}
 use Rattle.rows.proofs.Unders.{same_swap}
 
 module _ {V : Type 0} where
@@ -35,13 +35,7 @@ module _ {V : Type 0} where
           (told q p)
           ∙ sym (at-replaced p v rs q)
 
-  pub replaced_absent : (rs : List (Names × V)) (p : Names) (v : V) → has rs p ≡ false → replaced rs p v ≡ rs
-  replaced_absent rs p v h = replaced-none p v rs (none (at rs p) h) where
-    none : (o : Option V) → is_some o ≡ false → o ≡ None
-    none None k = refl
-    none (Some w) k = absurd (true≢false k)
-
-  pub length-replaced : (rs : List (Names × V)) (p : Names) (v : V) → length (replaced rs p v) ≡ length rs
+  length-replaced : (rs : List (Names × V)) (p : Names) (v : V) → length (replaced rs p v) ≡ length rs
   length-replaced rs p v =
       sym (length-map (replaced rs p v) (λ r. r.0)) ∙ ap length (keys-replaced p v rs) ∙ length-map rs (λ r. r.0)
 
@@ -76,9 +70,9 @@ module _ {V : Type 0} where
         alike q =
             at_set rs p (Some v) q
             ∙ go (same q p)
-            ∙ ap (λ o. or_else o (at rs q)) (sym (at-cons (p, v) [] q))
+            ∙ ap (λ o. option_or o (at rs q)) (sym (at-cons (p, v) [] q))
             ∙ sym (at-spliced ((p, v) ∷ []) rs q one_rises) where
-              go : (t : Bool) → cond t (Some v) (at rs q) ≡ or_else (cond t (Some v) None) (at rs q)
+              go : (t : Bool) → cond t (Some v) (at rs q) ≡ option_or (cond t (Some v) None) (at rs q)
               go true = refl
               go false = refl
 

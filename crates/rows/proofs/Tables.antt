@@ -28,7 +28,7 @@ pub is_under : (p q : Names) (r : Bool) → Decides r (Under p q) → r ≡ unde
 is_under p q r d = same_from_decides r (under p q) d (under-says p q)
 
 -- what is written through the slice stays
-pub written : {R : Type 0} (xs ys zs : List R) → ys ≡ zs → length zs ≡ length xs → refill (length xs) xs ys ≡ zs
+written : {R : Type 0} (xs ys zs : List R) → ys ≡ zs → length zs ≡ length xs → refill (length xs) xs ys ≡ zs
 written xs ys zs e n = ap (refill (length xs) xs) e ∙ items-with_items (record { items = xs }) zs n
 
 -- a call that is no `Err`
@@ -88,7 +88,7 @@ module _ {V : Type 0} where
     rises-inserted = ap ascending listed_inserted ∙ place.rises
 
   -- the rows that do not lie under a path
-  abbrev pub is_apart : Names → Row V → Bool
+  abbrev is_apart : Names → Row V → Bool
   is_apart p r = not (under p (names r.path))
 
   pub listed_apart : {F : Type 0} (p : Names) (R : F → Row V → Bool → F → Row V → Type 0) (f : F) (xs ys : List (Row V)) → RetainsInTurn R f xs ys → ((x : Row V) (b : Bool) (f' : F) (y : Row V) → R f x b f' y → (b ≡ is_apart p x) × (f' ≡ f) × (y ≡ x)) → rows_of ys ≡ without p (rows_of xs)

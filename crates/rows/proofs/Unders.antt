@@ -1,6 +1,6 @@
 -- Paths at and below paths. Assumes nothing.
 use Rattle.std.proofs.Common.{◌≡◌, ℕ, Bool, true, false, ◌&&◌, ◌||◌, ◌⊎◌, List, [], ◌∷◌, ◌++◌, map, Ordering, Less, Equal, Greater, sym, refl, ap, ◌∙◌, subst, inl, inr, ⊎_elim}
-use Rattle.std.proofs.lemmas.Bool.{true≢false, and_parts, and_from}
+use Rattle.std.proofs.lemmas.Bool.{true≢false, and_parts, and_from, and_left, and_right, both_ways, false_from_ne_true}
 use Rattle.std.specs.Cmp.{nat_cmp_total}
 use Rattle.std.specs.Cmp.Lexicographic.{lists_total}
 use Rattle.std.specs.Ordering.{is_eq, ordering_reverse, ordering_then}
@@ -68,6 +68,20 @@ same-under (n ∷ p) (k ∷ q) = go (by_bytes k n) (eq n k) (eq_swap n k) (same-
 
 pub same_swap : (p q : Names) → same p q ≡ same q p
 same_swap p q = ap is_eq ((lists_total (lists_total nat_cmp_total)).antisymm q p) ∙ is_eq_reversed (by_names p q)
+
+-- what does not lie at or above a path, or not at or below it, is not that path
+pub not_over : (q p : Names) → under q p ≡ false → same q p ≡ false
+not_over q p h = same-under q p ∙ and_left (under q p) (under p q) h
+
+pub not_at : (q p : Names) → under p q ≡ false → same q p ≡ false
+not_at q p h = same-under q p ∙ and_right (under q p) (under p q) h
+
+-- what lies above a path and is not that path does not lie below it, nor the other way round
+pub not_below : (q p : Names) → same q p ≡ false → under q p ≡ true → under p q ≡ false
+not_below q p n u = false_from_ne_true (under p q) (λ w. both_ways (same q p) n (same-under q p ∙ and_from (under q p) (under p q) u w))
+
+pub not_above : (q p : Names) → same q p ≡ false → under p q ≡ true → under q p ≡ false
+not_above q p n u = not_below p q (same_swap p q ∙ n) u
 
 among-map : (n k : List ℕ) (ks : List Names) (q : Names) → among (map (λ r. n ∷ r) ks) (k ∷ q) ≡ (eq n k && among ks q)
 among-map n k [] q = elim (eq n k) as (λ t. false ≡ (t && false)) [ true ↦ refl | false ↦ refl ]

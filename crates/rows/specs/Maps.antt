@@ -81,7 +81,3 @@ module _ {V : Type 0} where
   abbrev pub replaced : List (Names × V) → Names → V → List (Names × V)
   replaced [] p v = []
   replaced (r ∷ rs) p v = cond (is_at p r) ((r.0, v) ∷ rs) (r ∷ replaced rs p v)
-
-  abbrev pub or_else : Option V → Option V → Option V
-  or_else None y = y
-  or_else (Some x) y = Some x

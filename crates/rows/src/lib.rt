@@ -2,6 +2,7 @@
 
 #![tactic(auto)]
 
+pub mod order;
 mod position;
 pub mod row;
 pub mod sorted;

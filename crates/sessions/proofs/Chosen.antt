@@ -1,11 +1,11 @@
 -- The choice between a row and a child of the tree below. Assumes nothing.
-use Rattle.std.proofs.Common.{◌≡◌, ℕ, Bool, true, false, cond, not, ◌||◌, ◌&&◌, List, is_some, Some, None, Option, MatchOption, Bor, sym, refl, ap, ◌∙◌}
+use Rattle.std.proofs.Common.{◌≡◌, ℕ, Bool, true, false, cond, not, ◌||◌, List, is_some, Some, None, Option, MatchOption, Bor, sym, refl, ap, ◌∙◌}
 use Rattle.std.proofs.lemmas.Bool.{true≢false}
 use Rattle.std.specs.Option.{option_map, option_copied}
 use Rattle.paths.specs.declared.Path.{Path}
 use Rattle.paths.specs.Paths.{names}
 use Rattle.paths.specs.Names.{last_name}
-use Rattle.trees.specs.Entries.{Row, closed}
+use Rattle.trees.specs.Entries.{Row, is_tree}
 use Rattle.rows.specs.Maps.{Names, before, first, at, has, ascending, is_child, child_path}
 use Rattle.rows.proofs.Firsts.{first_some, in-there}
 use Rattle.marks.specs.declared.mark.Mark.{Mark}
@@ -15,12 +15,12 @@ use Rattle.marks.proofs.Merges.{layer_parts}
 use Rattle.marks.proofs.Seen.{seen_low, seen-lower, seen-row, seen_skip}
 
 -- there is a path, and it comes before r
-abbrev pub leads : Option Names → Names → Bool
+abbrev leads : Option Names → Names → Bool
 leads None r = false
 leads (Some l) r = before l r
 
 -- a mark that sets no entry
-abbrev pub hidden : Option Mark → Bool
+abbrev hidden : Option Mark → Bool
 hidden None = false
 hidden (Some x) = not (is_some (entry_of x))
 
@@ -68,7 +68,7 @@ child-has {V} rs p a r up h = go (first (is_child p a) rs) refl h where
 
 -- ---- which of the two it is
 
-module _ (m : List MarkRow) (e : List Row) (lm : layered m ≡ true) (le : (ascending e && closed e e) ≡ true) (p : Names) (a : List ℕ) (low : Option Path) (is : option_map names low ≡ cond (not (cut (at m) p || stops (at m p))) (child_path e p a) None) where
+module _ (m : List MarkRow) (e : List Row) (lm : layered m ≡ true) (le : is_tree e ≡ true) (p : Names) (a : List ℕ) (low : Option Path) (is : option_map names low ≡ cond (not (cut (at m) p || stops (at m p))) (child_path e p a) None) where
   abbrev shown : Bool
   shown = not (cut (at m) p || stops (at m p))
 

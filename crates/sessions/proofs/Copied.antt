@@ -2,15 +2,15 @@
 use Rattle.std.proofs.Common.{◌≡◌, ℕ, ◌+◌, ◌≤◌, Bool, true, false, cond, leb, List, [], ◌∷◌, ◌++◌, map, length, is_some, Some, None, Option, sym, refl, ap, ◌∙◌, subst, inl, inr, ⊎_elim, append_assoc, length-append, arith}
 use Rattle.std.proofs.lemmas.Bool.{true≢false, and_from, cond-true, cond-false, le-leb, cases_Bool}
 use Rattle.std.specs.List.{AllByRecursion as All}
-use Rattle.std.specs.Option.{option_map}
+use Rattle.std.specs.Option.{option_map, option_or}
 use Rattle.paths.specs.Names.{prefixes}
-use Rattle.rows.specs.Maps.{Names, at, has, ascending, under, replaced, or_else}
+use Rattle.rows.specs.Maps.{Names, at, has, ascending, under, replaced}
 use Rattle.rows.specs.Builds.{same, row, build}
 use Rattle.rows.specs.Positions.{lead}
 use Rattle.rows.specs.Tables.{spliced, splices}
 use Rattle.rows.proofs.Firsts.{In, holds_at, in-there, prefix_there, head_least}
-use Rattle.rows.proofs.Built.{at-built, ascending-build, same_rows, told, same_path}
-use Rattle.rows.proofs.Unders.{under_goes, under-itself, under_rest, among-prefixes, comparable, same_swap}
+use Rattle.rows.proofs.Built.{at-built, ascending-build, same_rows, same_path}
+use Rattle.rows.proofs.Unders.{under_goes, under-itself, under_rest, among-prefixes, comparable, same_swap, not_over}
 use Rattle.rows.proofs.Changed.{at-replaced, ascending-replaced, at-spliced, length-spliced}
 use Rattle.rows.proofs.Ranges.{under_late}
 use Rattle.rows.proofs.Inserts.{spliced-rises}
@@ -19,10 +19,10 @@ use Rattle.trees.specs.declared.entry.Entry.{Entry}
 use Rattle.trees.specs.Entries.{Row}
 use Rattle.trees.proofs.Grown.{grown-rooted}
 use Rattle.marks.specs.declared.mark.Mark.{Mark}
-use Rattle.marks.specs.Marks.{MarkRow, holds, ranged, merged, layered}
+use Rattle.marks.specs.Marks.{MarkRow, marks_dir, ranged, merged, layered}
 use Rattle.marks.specs.Edits.{lifted, write_at, written, lacks, ProperDirs}
 use Rattle.marks.proofs.Counts.{ascends-prefixes}
-use Rattle.marks.proofs.Grows.{holds_real}
+use Rattle.marks.proofs.Grows.{marks_dir-there}
 use Rattle.marks.proofs.Merges.{layer_parts}
 use Rattle.marks.proofs.Noted.{length-written}
 use Rattle.marks.proofs.Writes.{at-written, ascending-written}
@@ -34,24 +34,21 @@ none_fresh x None v false true a b = absurd (true≢false b)
 none_fresh x None v false false a b = refl
 none_fresh x (Some y) v s u a b = refl
 
-or-none : {V : Type 0} (o : Option V) → or_else o None ≡ o
+or-none : {V : Type 0} (o : Option V) → option_or o None ≡ o
 or-none None = refl
 or-none (Some v) = refl
 
-or_fresh : (x : Mark) (o : Option Mark) (v : Option Entry) (s u : Bool) → (s ≡ true → is_some o ≡ false) → or_else (cond (is_some o) None (cond s (Some x) (cond u (lifted o v) o))) o ≡ cond s (Some x) (cond u (lifted o v) o)
+or_fresh : (x : Mark) (o : Option Mark) (v : Option Entry) (s u : Bool) → (s ≡ true → is_some o ≡ false) → option_or (cond (is_some o) None (cond s (Some x) (cond u (lifted o v) o))) o ≡ cond s (Some x) (cond u (lifted o v) o)
 or_fresh x None v s u h = or-none (cond s (Some x) (cond u (lifted None v) None))
 or_fresh x (Some y) v true u h = absurd (true≢false (h refl))
 or_fresh x (Some y) v false true h = refl
 or_fresh x (Some y) v false false h = refl
 
 module _ (x : Mark) (m : List MarkRow) (e : List Row) (p : Names) (lm : layered m ≡ true) where
-  apart_same : (q : Names) → under q p ≡ false → same q p ≡ false
-  apart_same q h = ⊎_elim (λ y. absurd (true≢false (sym (subst (λ z. under z p ≡ true) (sym y.0) (under-itself p)) ∙ h))) (λ n. n) (told q p)
-
   at_fresh : (q : Names) → at (fresh_rows x m e p) q ≡ fresh_mark x m e p q
   at_fresh q =
       at-built (fresh_mark x m e p) (prefixes p) q
-      (λ h. let u = sym (among-prefixes p q) ∙ h in none_fresh x (at m q) (at (merged m e) q) (same q p) (under q p) (apart_same q u) u)
+      (λ h. let u = sym (among-prefixes p q) ∙ h in none_fresh x (at m q) (at (merged m e) q) (same q p) (under q p) (not_over q p u) u)
 
   ascending_fresh : ascending (fresh_rows x m e p) ≡ true
   ascending_fresh = ascending-build (fresh_mark x m e p) (prefixes p) (ascends-prefixes p)
@@ -65,7 +62,7 @@ module _ (x : Mark) (m : List MarkRow) (e : List Row) (p : Names) (lm : layered 
     go : (t u : Bool) → has m r.0 ≡ t → under r.0 p ≡ u → cond t None (write_at x (at m) (at (merged m e)) p r.0) ≡ Some r.1 → (has m r.0 ≡ false) × (under r.0 p ≡ true)
     go true u a b f = some f
     go false true a b f = (a, b)
-    go false false a b f = some (sym (none_fresh x (at m r.0) (at (merged m e) r.0) (same r.0 p) (under r.0 p) (apart_same r.0 b) b) ∙ (cond-false (has m r.0) None (write_at x (at m) (at (merged m e)) p r.0) a ∙ f))
+    go false false a b f = some (sym (none_fresh x (at m r.0) (at (merged m e) r.0) (same r.0 p) (under r.0 p) (not_over r.0 p b) b) ∙ (cond-false (has m r.0) None (write_at x (at m) (at (merged m e)) p r.0) a ∙ f))
 
   -- so they can be put among the rows
   rises_fresh : ascending (spliced (fresh_rows x m e p) m) ≡ true
@@ -86,20 +83,20 @@ module _ (x : Mark) (m : List MarkRow) (e : List Row) (p : Names) (lm : layered 
         by : (t : Bool) → under n.0 y.0 ≡ t → under n.0 y.0 ≡ false
         by true u =
             let d = under_rest n.0 y.0 u in
-            absurd (true≢false (sym (prefix_there m (grown-rooted ranged holds holds_real m m (layer_parts m lm).1) d.0 n.0 (subst (λ z. has m z ≡ true) d.1 (in-there m up y i))) ∙ (f n (inl refl)).0))
+            absurd (true≢false (sym (prefix_there m (grown-rooted ranged marks_dir marks_dir-there m m (layer_parts m lm).1) d.0 n.0 (subst (λ z. has m z ≡ true) d.1 (in-there m up y i))) ∙ (f n (inl refl)).0))
         by false u = u
 
   spliced_fresh : has m p ≡ false → spliced (fresh_rows x m e p) m ≡ written x m e p
   spliced_fresh h =
       same_rows (spliced (fresh_rows x m e p) m) (written x m e p) rises_fresh (ascending-written x m e p (layer_parts m lm).0)
       (λ q. at-spliced (fresh_rows x m e p) m q rises_fresh
-      ∙ ap (λ o. or_else o (at m q)) (at_fresh q)
+      ∙ ap (λ o. option_or o (at m q)) (at_fresh q)
       ∙ or_fresh x (at m q) (at (merged m e) q) (same q p) (under q p) (λ s. ap (has m) (same_path q p s) ∙ h)
       ∙ sym (at-written x m e p q))
 
   -- a path that has a row has one at each prefix
   prefix_row : (q : Names) → under q p ≡ true → has m p ≡ true → is_some (at m q) ≡ true
-  prefix_row q u h = let d = under_rest q p u in prefix_there m (grown-rooted ranged holds holds_real m m (layer_parts m lm).1) d.0 q (subst (λ z. has m z ≡ true) d.1 h)
+  prefix_row q u h = let d = under_rest q p u in prefix_there m (grown-rooted ranged marks_dir marks_dir-there m m (layer_parts m lm).1) d.0 q (subst (λ z. has m z ≡ true) d.1 h)
 
   kept_fresh : (o : Option Mark) (v : Option Entry) (s u : Bool) → (s ≡ true → is_some o ≡ true) → (u ≡ true → is_some o ≡ true) → cond s (option_map (λ _. x) o) o ≡ cond s (Some x) (cond u (lifted o v) o)
   kept_fresh None v true u h k = absurd (true≢false (sym (h refl)))

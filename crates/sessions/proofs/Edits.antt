@@ -1,11 +1,11 @@
 -- An edit of a session, refused or granted. Assumes nothing.
-use Rattle.std.proofs.Common.{◌≡◌, ℕ, ◌≤◌, true, ◌&&◌, List, length, is_some, Some, None, Ok, Err, Option, Result, sym, refl, ap, ◌∙◌, subst, arith}
+use Rattle.std.proofs.Common.{◌≡◌, ℕ, ◌≤◌, true, List, length, is_some, Some, None, Ok, Err, Option, Result, sym, refl, ap, ◌∙◌, subst, arith}
 use Rattle.std.proofs.lemmas.Bool.{true≢false}
 use Rattle.paths.specs.declared.PathFault.{PathFault}
 use Rattle.paths.specs.Names.{judge}
-use Rattle.rows.specs.Maps.{Names, ascending}
+use Rattle.rows.specs.Maps.{Names}
 use Rattle.trees.specs.declared.fault.Fault.{Fault}
-use Rattle.trees.specs.Entries.{Row, closed, fine}
+use Rattle.trees.specs.Entries.{Row, fine, is_tree}
 use Rattle.edits.specs.declared.action.Action.{Action}
 use Rattle.edits.specs.Edits.{refused_at, answered, unless_refused, Outcome}
 use Rattle.trees.proofs.Fine.{judged-fine}
@@ -34,7 +34,7 @@ module _ (m : List MarkRow) (e : List Row) (s : List ℕ) (a : Action) where
 abbrev SessionOutcome : List MarkRow → List MarkRow → List Row → List ℕ → Action → Result (Unit {0}) Fault → Type 0
 SessionOutcome m m' e s a r = Outcome (merged m e) (merged m' e) (room_of m) (room_of m') (lacks m) (lacks m') s a r
 
-module _ (m : List MarkRow) (e : List Row) (lm : layered m ≡ true) (le : (ascending e && closed e e) ≡ true) (few : length m ≤ 192) (s : List ℕ) (a : Action) where
+module _ (m : List MarkRow) (e : List Row) (lm : layered m ≡ true) (le : is_tree e ≡ true) (few : length m ≤ 192) (s : List ℕ) (a : Action) where
   -- the answer decides which of the two it was
   judged-good : (p : Names) → judge s ≡ Ok p → fine p ≡ true → refusal_over m e s a ≡ None → SessionOutcome m (marked m e p a) e s a (Ok tt)
   judged-good p j good n =

@@ -19,19 +19,19 @@ use Rattle.trees.specs.Entries.{Entries, Row, is_dir, closed, fine}
 use Rattle.trees.specs.Answers.{next_of, next_in, next_at, counted, put_name}
 use Rattle.rows.proofs.Orders.{same-is, as_child, no_name_least}
 use Rattle.rows.proofs.Firsts.{In, first_some, first_no, in-there}
-use Rattle.trees.proofs.Grown.{is_none}
-use Rattle.trees.proofs.Closed.{is-fine, up-dir}
+use Rattle.trees.proofs.Closed.{is-fine, up-dir, tree_parts}
+use Rattle.paths.proofs.Granted.{is_none}
 
 pub fine_parts : (p : List (List ℕ)) → fine p ≡ true → (is_some (fault_in 0 p) ≡ false) × (leb (length (join p)) 120 ≡ true)
 fine_parts p h =
     let q = and_parts (not (is_some (fault_in 0 p))) (leb (length (join p)) 120) h in
     (not-true (is_some (fault_in 0 p)) q.0, q.1)
 
-pub judge-good : (s : List ℕ) → good s ≡ true → judge s ≡ Ok (split s)
+judge-good : (s : List ℕ) → good s ≡ true → judge s ≡ Ok (split s)
 judge-good s g = ap (judged (split s)) (is_none (fault s) (not-true (is_some (fault s)) g))
 
 module _ (rs : List Row) (a : ascending rs ≡ true) (c : closed rs rs ≡ true) (ns : List (List ℕ)) (after : List ℕ) where
-  pub child-is : (r : Row) → is_child ns after r ≡ true → r.0 ≡ ns ++ last_name r.0 ∷ []
+  child-is : (r : Row) → is_child ns after r ≡ true → r.0 ≡ ns ++ last_name r.0 ∷ []
   child-is r t = go r.0 (same-is (parent r.0) ns p.0) p.1 where
     p : (is_eq (by_names (parent r.0) ns) ≡ true) × (is_lt (by_bytes after (last_name r.0)) ≡ true)
     p = and_parts (is_eq (by_names (parent r.0) ns)) (is_lt (by_bytes after (last_name r.0))) t
@@ -52,7 +52,7 @@ module _ (rs : List Row) (a : ascending rs ≡ true) (c : closed rs rs ≡ true)
           let d = up-dir rs c x.0 (in-there rs a x i) in
           absurd (both_ways (is_dir (at rs ns)) f (sym (ap (λ z. is_dir (at rs z)) (same-is (parent x.0) ns p.0)) ∙ d))
 
-  abbrev pub Answered : Result (Option (List ℕ)) Fault → Type 0
+  abbrev Answered : Result (Option (List ℕ)) Fault → Type 0
   Answered (Err f) = child_path rs ns after ≡ None
   Answered (Ok None) = child_path rs ns after ≡ None
   Answered (Ok (Some n)) = (child_path rs ns after ≡ Some (ns ++ n ∷ [])) × (child_fault ns n ≡ None) × (length n ≤ 40)
@@ -82,7 +82,7 @@ module _ (rs : List Row) (a : ascending rs ≡ true) (c : closed rs rs ≡ true)
   stepped g (Some (Dir m)) e = listed g (first (is_child ns after) rs) refl
 
 module _ (rs : List Row) (a : ascending rs ≡ true) (c : closed rs rs ≡ true) (s : List ℕ) (g : good s ≡ true) (after : List ℕ) where
-  pub answered : Answered rs a c (split s) after (next_of rs s after 40)
+  answered : Answered rs a c (split s) after (next_of rs s after 40)
   answered =
       subst (λ j. Answered rs a c (split s) after (next_in rs after 40 j)) (sym (judge-good s g))
       (stepped rs a c (split s) after (good_parts s g).1 (at rs (split s)) refl)
@@ -90,7 +90,7 @@ module _ (rs : List Row) (a : ascending rs ≡ true) (c : closed rs rs ≡ true)
 -- the same of a tree's entries and a path
 module _ (en : Entries) (p : Path) (s after : List ℕ) (is : s ≡ text p) where
   sure : (ascending en.rows ≡ true) × (closed en.rows en.rows ≡ true)
-  sure = and_parts (ascending en.rows) (closed en.rows en.rows) en.ok
+  sure = tree_parts en.rows en.ok
 
   abbrev Told : Result (Option (List ℕ)) Fault → Type 0
   Told st = Answered en.rows sure.0 sure.1 (names p) after st

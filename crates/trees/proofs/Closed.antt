@@ -5,22 +5,17 @@ use Rattle.paths.specs.Names.{parent}
 use Rattle.rows.specs.Maps.{Names, at, has, ascending, rooted}
 use Rattle.rows.proofs.Firsts.{there}
 use Rattle.trees.specs.declared.entry.Entry.{Entry}
-use Rattle.trees.specs.Entries.{Row, is_dir, in_range, fine, grown, closed}
-use Rattle.trees.proofs.Grown.{Sound, grown_head, grown_by, grown-rooted, sound-at}
+use Rattle.trees.specs.Entries.{Row, is_dir, in_range, fine, grown, closed, is_tree}
+use Rattle.trees.proofs.Grown.{Sound, grown_by, grown-rooted, sound-at}
 
 -- rows of a tree rise and are closed
-pub tree_parts : (rs : List Row) → (ascending rs && closed rs rs) ≡ true → (ascending rs ≡ true) × (closed rs rs ≡ true)
+pub tree_parts : (rs : List Row) → is_tree rs ≡ true → (ascending rs ≡ true) × (closed rs rs ≡ true)
 tree_parts rs h = and_parts (ascending rs) (closed rs rs) h
 
 -- it is what `grown` says of entries
 pub closed-grown : (all rs : List Row) → closed all rs ≡ grown in_range is_dir all rs
 closed-grown all [] = refl
 closed-grown all (r ∷ rs) = ap (λ b. ((fine r.0 && in_range r.1) && is_dir (at all (parent r.0))) && b) (closed-grown all rs)
-
-pub closed_head : (all : List Row) (r : Row) (rs : List Row) → closed all (r ∷ rs) ≡ true → Sound in_range is_dir all r × (closed all rs ≡ true)
-closed_head all r rs h =
-    let p = grown_head in_range is_dir all r rs (sym (closed-grown all (r ∷ rs)) ∙ h) in
-    (p.0, closed-grown all rs ∙ p.1)
 
 -- said of each path, it holds of all rows
 pub closed_by : (rs : List Row) → ascending rs ≡ true → ((p : Names) (e : Entry) → at rs p ≡ Some e → Sound in_range is_dir rs (p, e)) → closed rs rs ≡ true

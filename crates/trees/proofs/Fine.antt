@@ -1,7 +1,6 @@
 -- Good paths: what their names and their texts are. Assumes nothing.
-use Rattle.trees.proofs.Grown.{is_none}
-use Rattle.std.proofs.Common.{◌≡◌, ℕ, ◌<◌, ◌≤◌, true, false, not, ◌&&◌, eqb, leb, List, [], ◌∷◌, ◌++◌, length, is_some, Some, None, Ok, Option, sym, refl, ap, ◌∙◌, subst, arith}
-use Rattle.std.proofs.lemmas.Bool.{true≢false, and_parts, and_from, not_from_false, cond-true, leb-true, le-leb}
+use Rattle.std.proofs.Common.{◌≡◌, ℕ, ◌<◌, ◌≤◌, true, not, ◌&&◌, eqb, leb, List, [], ◌∷◌, ◌++◌, length, is_some, Some, None, Ok, Option, sym, refl, ap, ◌∙◌, subst, arith}
+use Rattle.std.proofs.lemmas.Bool.{and_parts, and_from, not_from_false, cond-true, leb-true, le-leb}
 use Rattle.std.specs.List.{AllByRecursion as All}
 use Rattle.paths.specs.declared.Path.{Path}
 use Rattle.paths.specs.declared.PathFault.{PathFault}
@@ -12,13 +11,14 @@ use Rattle.paths.proofs.Joins.{Plain, good_parts, join_split, split_join, plain-
 use Rattle.rows.specs.Maps.{Names}
 use Rattle.trees.specs.Entries.{fine}
 use Rattle.trees.proofs.Answering.{fine_parts}
+use Rattle.paths.proofs.Granted.{is_none}
 
 abbrev pub Bytes : List ℕ → Type 0
 Bytes s = All (λ b. b < 256) s
 
 -- ---- what is judged to be good
 
-pub good-fine : (s : List ℕ) → good s ≡ true → fine (split s) ≡ true
+good-fine : (s : List ℕ) → good s ≡ true → fine (split s) ≡ true
 good-fine s h =
     let g = good_parts s h in
     let short : length (join (split s)) ≤ 120 = subst (λ l. length l ≤ 120) (sym (join_split s)) g.0 in
@@ -60,8 +60,11 @@ join-bytes (n ∷ m ∷ p) h =
 -- ---- what the text is judged to be
 
 module _ (p : Names) (f : fine p ≡ true) where
-  plain-names : Plain p
+  pub plain-names : Plain p
   plain-names = plain-from-fault 0 p (fine_parts p f).0
+
+  pub fine-short : length (join p) ≤ 120
+  fine-short = leb-true (length (join p)) 120 (fine_parts p f).1
 
   pub fine-bytes : Bytes (join p)
   fine-bytes = join-bytes p plain-names

@@ -1,6 +1,6 @@
 -- Rows of which each path is good, each value passes, and each parent is a directory. Assumes nothing.
 use Rattle.std.proofs.Common.{◌≡◌, ℕ, Bool, true, false, ◌&&◌, List, [], ◌∷◌, ◌++◌, is_some, Some, None, Option, sym, refl, ap, ◌∙◌, subst, inl, inr, ⊎_elim}
-use Rattle.std.proofs.lemmas.Bool.{true≢false, both_ways, and_parts, and_from}
+use Rattle.std.proofs.lemmas.Bool.{both_ways, and_parts, and_from}
 use Rattle.paths.specs.Names.{parent}
 use Rattle.rows.specs.Maps.{Names, at, has, ascending, rooted, under}
 use Rattle.rows.proofs.Orders.{parent-child}
@@ -9,10 +9,6 @@ use Rattle.rows.proofs.Unders.{strictly}
 use Rattle.rows.proofs.Risen.{in_parts}
 use Rattle.rows.proofs.Earlier.{passed-later}
 use Rattle.trees.specs.Entries.{fine, grown}
-
-pub is_none : {V : Type 0} (o : Option V) → is_some o ≡ false → o ≡ None
-is_none None h = refl
-is_none (Some v) h = absurd (true≢false h)
 
 -- what is said of one row
 pub record Sound {V : Type 0} (passes : V → Bool) (dir : Option V → Bool) (all : List (Names × V)) (r : Names × V) : Type 0 where
@@ -28,13 +24,13 @@ module _ {V : Type 0} (passes : V → Bool) (dir : Option V → Bool) where
       let o = and_parts (fine r.0) (passes r.1) q.0 in
       (record { good = o.0; ranged = o.1; under = q.1 }, p.1)
 
-  pub grown_one : (all rs : List (Names × V)) → grown passes dir all rs ≡ true → (r : Names × V) → In rs r → Sound passes dir all r
+  grown_one : (all rs : List (Names × V)) → grown passes dir all rs ≡ true → (r : Names × V) → In rs r → Sound passes dir all r
   grown_one all [] h r i = absurd i
   grown_one all (x ∷ rs) h r i =
       let p = grown_head all x rs h in
       ⊎_elim (λ s. subst (Sound passes dir all) (sym s) p.0) (λ j. grown_one all rs p.1 r j) i
 
-  pub grown-from : (all rs : List (Names × V)) → ((r : Names × V) → In rs r → Sound passes dir all r) → grown passes dir all rs ≡ true
+  grown-from : (all rs : List (Names × V)) → ((r : Names × V) → In rs r → Sound passes dir all r) → grown passes dir all rs ≡ true
   grown-from all [] f = refl
   grown-from all (r ∷ rs) f =
       let s = f r (inl refl) in
@@ -71,7 +67,7 @@ module _ {V : Type 0} (passes : V → Bool) (dir : Option V → Bool) where
 
     module _ (rs : List (Names × V)) (g : grown passes dir rs rs ≡ true) where
       -- a row below a path has the child of that path above it
-      pub child-row : (p q : Names) → under p q ≡ true → under q p ≡ false → has rs q ≡ true → (n : List ℕ) × (has rs (p ++ n ∷ []) ≡ true)
+      child-row : (p q : Names) → under p q ≡ true → under q p ≡ false → has rs q ≡ true → (n : List ℕ) × (has rs (p ++ n ∷ []) ≡ true)
       child-row p q u w h =
           let d = strictly p q u w in
           (d.0, child-there rs (grown-rooted rs rs g) d.0 d.1 p (subst (λ z. has rs z ≡ true) d.2 h))

@@ -42,6 +42,10 @@ abbrev pub closed : List Row → List Row → Bool
 closed all [] = true
 closed all (r ∷ rs) = ((fine r.0 && in_range r.1) && is_dir (at all (parent r.0))) && closed all rs
 
+-- rows that rise, in which each path is good, each entry in range and each parent a directory
+abbrev pub is_tree : List Row → Bool
+is_tree rows = ascending rows && closed rows rows
+
 pub record Entries : Type 0 where
   pub rows : List Row
-  pub ok : (ascending rows && closed rows rows) ≡ true
+  pub ok : is_tree rows ≡ true

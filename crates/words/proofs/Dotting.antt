@@ -7,8 +7,8 @@ use Rattle.paths.specs.declared.PathFault.TheVariants.{TooLong}
 use Rattle.paths.specs.Names.{split, fault_in, judge, judged, same, begins}
 use Rattle.words.specs.declared.fault.Cause.TheVariants.{Word, Path}
 use Rattle.std.specs.Option.{option_map}
-use Rattle.paths.specs.Steps.{and_then_some}
-use Rattle.words.specs.Words.{undotted, held, judged_word}
+use Rattle.paths.specs.Steps.{and_then_some, map_err}
+use Rattle.words.specs.Words.{undotted, judged_word}
 
 -- a longer word is not the root's
 not_root : (x y : ℕ) (s : List ℕ) → same (46 ∷ []) (x ∷ y ∷ s) ≡ false
@@ -21,8 +21,8 @@ undotted_long x y s l t e =
     ∙ ap (λ u. cond (u && ltb 2 (length (x ∷ y ∷ s))) (Some s) None) e
     ∙ ap (λ u. cond u (Some s) None) (ap (λ u. t && u) (lt-ltb 2 (length (x ∷ y ∷ s)) (omega arith)) ∙ and-true t)
 
-too_long : (s : List ℕ) → 120 < length s → held (judge s) ≡ Err (Path TooLong)
-too_long s l = ap (λ o. held (judged (split s) o)) (cond-false (leb (length s) 120) (fault_in 0 (split s)) (Some TooLong) (lt-leb (length s) 120 l))
+too_long : (s : List ℕ) → 120 < length s → map_err Path (judge s) ≡ Err (Path TooLong)
+too_long s l = ap (λ o. map_err Path (judged (split s) o)) (cond-false (leb (length s) 120) (fault_in 0 (split s)) (Some TooLong) (lt-leb (length s) 120 l))
 
 long : (x y : ℕ) (s : List ℕ) → 120 < length s → (t : Bool) → begins (46 ∷ 47 ∷ []) (x ∷ y ∷ s) ≡ t → judged_word (undotted (x ∷ y ∷ s)) ≡ Err (cond t (Path TooLong) Word)
 long x y s l true e = ap judged_word (undotted_long x y s (omega arith) true e) ∙ too_long s l

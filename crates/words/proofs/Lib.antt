@@ -1,2 +1,3 @@
 pub mod Machine
 pub mod Dotting
+pub mod Splits

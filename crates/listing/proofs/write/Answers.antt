@@ -1,12 +1,9 @@
-use Rattle.std.proofs.Common.{ℕ, List, [], ◌∷◌, ◌++◌, ◌∙◌, length, ap, refl, arith}
+use Rattle.std.proofs.Common.{◌∷◌, ◌++◌, ◌∙◌, length, ap, refl, arith}
 use Rattle.std.specs.List.{concat}
-use Rattle.listing.specs.Lines.{listing}
+use Rattle.listing.specs.Lines.{listing, header}
 use Rattle.listing.proofs.Rest.{all_told}
 use Rattle.trees.proofs.Written.{unwritten, room_for, more, done}
 use Rattle.listing.proofs.write.Goals as goal
-
-abbrev header : List ℕ
-header = 35 ∷ 109 ∷ 116 ∷ 114 ∷ 101 ∷ 101 ∷ 10 ∷ []
 
 pub loop-line-init : goal.loop-line-init
 loop-line-init g c =

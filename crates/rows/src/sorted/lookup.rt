@@ -6,17 +6,11 @@ ghost use Rattle.rows.specs.Maps.{at, ascending, rooted, child_path};
 ghost use Rattle.rows.specs.Rows.{rows_of};
 ghost use Rattle.rows.specs.Positions.{place_of, lead, child_at, Here};
 
+use crate::order::rising;
 use crate::position::Position;
 use crate::row::Row;
 use crate::sorted::Sorted;
 use paths::Path;
-
-// Whether rows rise strictly.
-pub(super) fn rising<V>(rows: &[Row<V>]) -> bool
-    ensures { result ≡ ascending (rows_of rows.now) }
-{
-    rows.is_sorted_by(|a, b| a.path < b.path)
-}
 
 impl<'a, V> Sorted<'a, V> {
     // The rows, if they rise strictly.

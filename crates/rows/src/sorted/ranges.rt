@@ -5,10 +5,10 @@ ghost use Rattle.rows.specs.Maps.{above, ascending};
 ghost use Rattle.rows.specs.Rows.{rows_of};
 ghost use Rattle.rows.specs.Tables.{spliced, Spliced};
 
+use crate::order::rising;
 use crate::position::Position;
 use crate::row::Row;
 use crate::sorted::Sorted;
-use crate::sorted::lookup::rising;
 use paths::Path;
 
 impl<'a, V> Sorted<'a, V> {

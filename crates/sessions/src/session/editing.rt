@@ -5,7 +5,7 @@ ghost use Rattle.edits.specs.Edits.{refused_at, answered, Outcome};
 ghost use Rattle.marks.specs.Marks.{layered};
 ghost use Rattle.marks.specs.Laws.{Granted};
 ghost use Rattle.edits.specs.declared.action.Action.TheVariants.{Put, Mkdir, Chmod, Remove};
-ghost use Rattle.marks.specs.Edits.{written, shows_below, removed, marked, lacks, ProperDirs};
+ghost use Rattle.marks.specs.Edits.{written, shows_again, removed, marked, lacks, ProperDirs};
 ghost use Rattle.sessions.specs.Sessions.{room_of, refusal_over, marks_after, marks_in, rows_below, seen_rows};
 ghost use Rattle.marks.proofs.Noted.{lacks_most};
 
@@ -45,7 +45,7 @@ impl<T: Tree> Session<T> {
         ensures marks { marks_in self.new ≡ removed (marks_in self.old) (rows_below T.Tree.entries self.old) (names path.now) }
         ensures lower { self.new.lower ≡ self.old.lower }
     {
-        let shows = self.is_shown_below(path);
+        let shows = self.shows_again(path);
         self.layer.rows.remove_under(path);
         if shows {
             self.write(path, Mark::Whiteout);
@@ -53,8 +53,8 @@ impl<T: Tree> Session<T> {
     }
 
     // Whether the tree below has the path, and no directory above it is opaque.
-    fn is_shown_below(&self, path: &Path) -> bool
-        ensures { result ≡ shows_below (marks_in self.now) (rows_below T.Tree.entries self.now) (names path.now) }
+    fn shows_again(&self, path: &Path) -> bool
+        ensures { result ≡ shows_again (marks_in self.now) (rows_below T.Tree.entries self.now) (names path.now) }
     {
         asked::entry_at(&self.lower, path).is_some() && !self.layer.hides(path)
     }

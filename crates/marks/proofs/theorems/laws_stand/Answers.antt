@@ -9,7 +9,7 @@ use Rattle.marks.proofs.theorems.laws_stand.Goals as goal
 
 pub returns : goal.returns
 returns c = λ m e lm le. record {
-  is_tree = merged_tree m e lm le;
+  merged_tree = merged_tree m e lm le;
   has_at = at-merged m e;
   leaves_layer = λ room p a h good. layered-marked m e lm le p good room (lacks m p) a h;
   one_change = λ room p. entries-marked m e lm le p room (lacks m p);

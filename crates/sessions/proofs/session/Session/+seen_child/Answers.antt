@@ -2,9 +2,8 @@ use Rattle.std.proofs.Common.{◌≡◌, ◌<◌, sym, ap, ◌∙◌, rules, ari
 use Rattle.paths.specs.Names.{last_name}
 use Rattle.paths.specs.Paths.{names}
 use Rattle.rows.specs.Maps.{child_path}
-use Rattle.rows.proofs.Least.{ahead}
+use Rattle.rows.proofs.Least.{ahead, fewer_ahead}
 use Rattle.marks.specs.Marks.{merged}
-use Rattle.marks.proofs.Seen.{fewer_ahead}
 use Rattle.sessions.specs.Sessions.{marks_in, rows_below}
 use Rattle.sessions.proofs.Chosen.{low_is, leads_is, below_only, below_first, row_hidden, row_first}
 use Rattle.sessions.proofs.session.Session.+seen_child.Goals as goal

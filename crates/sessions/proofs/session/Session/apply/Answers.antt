@@ -1,7 +1,5 @@
 use Rattle.std.proofs.Common.{refl, sym, ap, ◌∙◌, subst}
 use Rattle.paths.specs.Paths.{names}
-use Rattle.trees.proofs.Fine.{path_fine}
-use Rattle.layers.proofs.Few.{few-rows}
 use Rattle.marks.specs.Edits.{marked}
 use Rattle.marks.specs.Laws.{Granted}
 use Rattle.sessions.specs.Sessions.{room_of, marks_in, rows_below}
@@ -10,8 +8,7 @@ use Rattle.sessions.proofs.session.Session.apply.Goals as goal
 
 pub write-requires : goal.write-requires
 write-requires g c =
-    let s = c.args.self.now in
-    let w = to_write (marks_in s) (rows_below g.T.Tree.entries s) s.layer.grown (g.T.Tree.entries s.lower).ok (names c.args.path.now) (few-rows s.layer) (path_fine c.args.path.now) c.args.action c.requires _ _ _ c.in-Some.ensures c.mark.ensures c.entry.ensures c.in-Some.mark refl in
+    let w = to_write g.T.Tree.entries c.args.self.now c.args.path.now c.args.action c.requires _ _ _ c.in-Some.ensures c.mark.ensures c.entry.ensures c.in-Some.mark refl in
     record { dirs = w.dirs; room = w.room; grows = w.grows }
 
 pub take_out-requires : goal.take_out-requires
@@ -20,13 +17,12 @@ take_out-requires g c =
     let m = marks_in s in
     let e = rows_below g.T.Tree.entries s in
     let p = names c.args.path.now in
-    let r = to_remove m e s.layer.grown (g.T.Tree.entries s.lower).ok p (few-rows s.layer) (path_fine c.args.path.now) c.args.action c.requires _ _ _ c.in-None.ensures c.mark.ensures c.entry.ensures refl in
+    let r = to_remove g.T.Tree.entries s c.args.path.now c.args.action c.requires _ _ _ c.in-None.ensures c.mark.ensures c.entry.ensures refl in
     subst (Granted m e (room_of m) p) r c.requires
 
 pub returns-in-Some-clause-marks : goal.returns-in-Some-clause-marks
 returns-in-Some-clause-marks g c =
-    let s = c.args.self.now in
-    let w = to_write (marks_in s) (rows_below g.T.Tree.entries s) s.layer.grown (g.T.Tree.entries s.lower).ok (names c.args.path.now) (few-rows s.layer) (path_fine c.args.path.now) c.args.action c.requires _ _ _ c.in-Some.ensures c.mark.ensures c.entry.ensures c.in-Some.mark refl in
+    let w = to_write g.T.Tree.entries c.args.self.now c.args.path.now c.args.action c.requires _ _ _ c.in-Some.ensures c.mark.ensures c.entry.ensures c.in-Some.mark refl in
     c.write.ensures.marks ∙ w.is
 
 pub returns-in-None-clause-marks : goal.returns-in-None-clause-marks
@@ -35,5 +31,5 @@ returns-in-None-clause-marks g c =
     let m = marks_in s in
     let e = rows_below g.T.Tree.entries s in
     let p = names c.args.path.now in
-    let r = to_remove m e s.layer.grown (g.T.Tree.entries s.lower).ok p (few-rows s.layer) (path_fine c.args.path.now) c.args.action c.requires _ _ _ c.in-None.ensures c.mark.ensures c.entry.ensures refl in
+    let r = to_remove g.T.Tree.entries s c.args.path.now c.args.action c.requires _ _ _ c.in-None.ensures c.mark.ensures c.entry.ensures refl in
     c.take_out.ensures.marks ∙ sym (ap (marked m e p) r)

@@ -4,7 +4,7 @@ use Rattle.std.proofs.lemmas.Fn.{always_returns_same}
 use Rattle.paths.specs.Paths.{names}
 use Rattle.rows.specs.Maps.{before}
 use Rattle.rows.proofs.Leads.{rises-answer}
-use Rattle.rows.proofs.sorted.lookup.rising.Goals as goal
+use Rattle.rows.proofs.order.rising.Goals as goal
 
 pub returns : goal.returns
 returns g c =
