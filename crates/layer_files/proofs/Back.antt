@@ -9,7 +9,7 @@ use Rattle.layer_files.specs.Reads.{Step, decoded}
 use Rattle.layer_files.proofs.Taken.{Taken, Unit}
 use Rattle.layer_files.proofs.Rows.{rows_by, decoded_ok}
 
-pub rows_push : (m : List MarkRow) (r : MarkRow) → rows_bytes (m ++ r ∷ []) ≡ rows_bytes m ++ row_bytes r
+rows_push : (m : List MarkRow) (r : MarkRow) → rows_bytes (m ++ r ∷ []) ≡ rows_bytes m ++ row_bytes r
 rows_push [] r = append-nil (row_bytes r)
 rows_push (x ∷ m) r = ap (λ s. row_bytes x ++ s) (rows_push m r) ∙ sym (append_assoc (row_bytes x) (rows_bytes m) (row_bytes r))
 

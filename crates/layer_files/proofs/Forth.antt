@@ -4,7 +4,7 @@ use Rattle.std.proofs.lemmas.List.{drop-drop}
 use Rattle.std.proofs.lemmas.Bool.{true≢false, cond-true, cond-false}
 use Rattle.std.specs.Option.{option_map, option_and_then, ok_or}
 use Rattle.paths.specs.Names.{join, same}
-use Rattle.paths.specs.Steps.{and_then}
+use Rattle.paths.specs.Steps.{and_then, map_err}
 use Rattle.paths.proofs.Tests.{same-itself}
 use Rattle.rows.specs.Maps.{Names, at}
 use Rattle.trees.specs.declared.entry.Entry.{Entry}
@@ -14,17 +14,18 @@ use Rattle.trees.specs.declared.entry.Entry.TheVariants as entry
 use Rattle.trees.specs.Entries.{fine, in_range}
 use Rattle.marks.specs.declared.mark.Mark.{Mark}
 use Rattle.marks.specs.declared.mark.Mark.TheVariants.{Whiteout, File, Dir, Opaque}
-use Rattle.marks.specs.Marks.{MarkRow, mark_of, holds}
+use Rattle.marks.specs.Marks.{MarkRow, mark_of, marks_dir}
 use Rattle.layer_fields.specs.declared.fault.Cause.TheVariants as cause
 use Rattle.layer_fields.specs.Faults.{fault_at}
 use Rattle.layer_fields.specs.Fields.{Field, field_bytes, front_field, span}
 use Rattle.layer_fields.specs.Said.{text_of, count_of, text_field, entry_field, whiteout_field}
-use Rattle.layer_fields.specs.Texts.{whiteout_text, marker_text, is_marker, is_whited, row_path}
+use Rattle.layer_fields.specs.Texts.{whiteout_text, marker_text, is_marker, has_whiteout_prefix, row_path}
 use Rattle.layer_fields.proofs.Read.{front-back, behind-field, entry-back, entry-short}
-use Rattle.layer_fields.proofs.ReadTexts.{path-not-whited, path-no-marker, path-back, path-short, marker-short, whiteout-whited, whiteout-no-marker, whiteout-back, whiteout-short}
+use Rattle.layer_fields.proofs.ReadTexts.{path-no-prefix, path-no-marker, path-back, marker-short, whiteout-prefixed, whiteout-no-marker, whiteout-back, whiteout-short}
 use Rattle.layer_files.specs.Files.{fields_bytes, row_bytes}
 use Rattle.layer_files.proofs.Placed.{Placed, placed_by, fits_ranged, dir_placed}
-use Rattle.layer_files.specs.Reads.{taken, positioned, mark_in, placed, Step, row_at, marks_opaque, marker_at, whiteout_span, opaque_if, marked_row, row_step, unit_of, unit_at}
+use Rattle.layer_files.specs.Reads.{taken, mark_in, placed, Step, row_at, marks_opaque, marker_at, whiteout_span, opaque_if, marked_row, row_step, unit_of, unit_at}
+use Rattle.trees.proofs.Fine.{fine-short}
 
 -- ---- a field at a position
 
@@ -45,11 +46,11 @@ taken-there rule bs at f x h r = ap (λ o. ok_or (option_and_then rule o) (fault
 -- ---- the row before a marker
 
 module _ (seen : List MarkRow) (bs : List ℕ) (at : ℕ) (s : List ℕ) (p : Names) (x : Mark) (n : ℕ) where
-  row-there : taken (mark_in (is_whited s)) bs (at + (3 + length s)) ≡ Ok (x, n) → row_path s ≡ Ok p → placed seen p x ≡ Ok (p, x) → row_at seen bs at s ≡ Ok ((p, x), at + (3 + length s) + n)
+  row-there : taken (mark_in (has_whiteout_prefix s)) bs (at + (3 + length s)) ≡ Ok (x, n) → row_path s ≡ Ok p → placed seen p x ≡ Ok (p, x) → row_at seen bs at s ≡ Ok ((p, x), at + (3 + length s) + n)
   row-there t w l =
-      ap (λ m. and_then m (λ y. and_then (positioned at (and_then (row_path s) (λ q. placed seen q y.0))) (λ r. Ok (r, at + (3 + length s) + y.1)))) t
-      ∙ ap (λ m. and_then (positioned at (and_then m (λ q. placed seen q x))) (λ r. Ok (r, at + (3 + length s) + n))) w
-      ∙ ap (λ m. and_then (positioned at m) (λ r. Ok (r, at + (3 + length s) + n))) l
+      ap (λ m. and_then m (λ y. and_then (map_err (fault_at at) (and_then (row_path s) (λ q. placed seen q y.0))) (λ r. Ok (r, at + (3 + length s) + y.1)))) t
+      ∙ ap (λ m. and_then (map_err (fault_at at) (and_then m (λ q. placed seen q x))) (λ r. Ok (r, at + (3 + length s) + n))) w
+      ∙ ap (λ m. and_then (map_err (fault_at at) m) (λ r. Ok (r, at + (3 + length s) + n))) l
 
   -- with what follows it
   step-there : (t : Step) → is_marker s ≡ false → row_at seen bs at s ≡ Ok ((p, x), n) → marked_row bs ((p, x), n) ≡ Ok t → row_step seen bs at s ≡ Ok (Some t)
@@ -61,7 +62,7 @@ module _ (seen : List MarkRow) (bs : List ℕ) (at : ℕ) (s : List ℕ) (p : Na
 -- ---- what is behind a row
 
 -- a mark that no marker changes
-unmarked : (p : Names) (x : Mark) (at : ℕ) (bs : List ℕ) → holds (Some x) ≡ false → (o : Option Field) → opaque_if p x at bs o ≡ Ok ((p, x), at)
+unmarked : (p : Names) (x : Mark) (at : ℕ) (bs : List ℕ) → marks_dir (Some x) ≡ false → (o : Option Field) → opaque_if p x at bs o ≡ Ok ((p, x), at)
 unmarked p Whiteout at bs h None = refl
 unmarked p Whiteout at bs h (Some f) = refl
 unmarked p (File e) at bs h None = refl
@@ -86,7 +87,7 @@ pub record Unmarked (p : Names) (bytes : List ℕ) : Type 0 where
 -- ---- the row itself
 
 -- what is read of a row, and what stands behind it
-abbrev pub Back : List MarkRow → List ℕ → ℕ → MarkRow → List ℕ → Type 0
+abbrev Back : List MarkRow → List ℕ → ℕ → MarkRow → List ℕ → Type 0
 Back seen bs at r rest = (k : ℕ) × (unit_at seen bs at ≡ Ok (Some (r, k))) × Stands bs k rest
 
 unit-there : (seen : List MarkRow) (bs : List ℕ) (at : ℕ) (s : List ℕ) (t : Step) → front_field (drop at bs) ≡ Some (text_field s) → row_step seen bs at s ≡ Ok (Some t) → unit_at seen bs at ≡ Ok (Some t)
@@ -102,7 +103,7 @@ module _ (seen : List MarkRow) (bs : List ℕ) (at : ℕ) (p : Names) (f : fine 
     after = second + span (entry_field e)
 
     text-is : front_field (drop at bs) ≡ Some (text_field (join p))
-    text-is = field-there bs at (text_field (join p)) (field_bytes (entry_field e) ++ rest) h (omega (arith, path-short p f))
+    text-is = field-there bs at (text_field (join p)) (field_bytes (entry_field e) ++ rest) h (omega (arith, fine-short p f))
 
     at-second : Stands bs second (field_bytes (entry_field e) ++ rest)
     at-second = behind bs at (text_field (join p)) (field_bytes (entry_field e) ++ rest) h
@@ -110,13 +111,13 @@ module _ (seen : List MarkRow) (bs : List ℕ) (at : ℕ) (p : Names) (f : fine 
     entry-is : front_field (drop second bs) ≡ Some (entry_field e)
     entry-is = field-there bs second (entry_field e) rest at-second (omega (arith, entry-short e))
 
-    mark-is : mark_in (is_whited (join p)) (entry_field e) ≡ Some (mark_of e, span (entry_field e))
+    mark-is : mark_in (has_whiteout_prefix (join p)) (entry_field e) ≡ Some (mark_of e, span (entry_field e))
     mark-is =
-        ap (λ b. mark_in b (entry_field e)) (path-not-whited p f) ∙ ap (option_map (λ x. (mark_of x, span (entry_field e)))) (entry-back e g)
+        ap (λ b. mark_in b (entry_field e)) (path-no-prefix p f) ∙ ap (option_map (λ x. (mark_of x, span (entry_field e)))) (entry-back e g)
 
     row-is : row_at seen bs at (join p) ≡ Ok ((p, mark_of e), after)
     row-is =
-        row-there seen bs at (join p) p (mark_of e) (span (entry_field e)) (taken-there (mark_in (is_whited (join p))) bs second (entry_field e) (mark_of e, span (entry_field e)) entry-is mark-is) (path-back p f) l
+        row-there seen bs at (join p) p (mark_of e) (span (entry_field e)) (taken-there (mark_in (has_whiteout_prefix (join p))) bs second (entry_field e) (mark_of e, span (entry_field e)) entry-is mark-is) (path-back p f) l
 
     behind-row : Stands bs after rest
     behind-row = behind bs second (entry_field e) rest at-second
@@ -164,8 +165,8 @@ module _ (seen : List MarkRow) (bs : List ℕ) (at : ℕ) (n : List ℕ) (r : Na
       let is = field-there bs at (text_field s) (field_bytes whiteout_field ++ rest) h (omega (arith, whiteout-short n r f)) in
       let c = behind bs at (text_field s) (field_bytes whiteout_field ++ rest) h in
       let white = field-there bs k whiteout_field rest c (omega arith) in
-      let mark : mark_in (is_whited s) whiteout_field ≡ Some (Whiteout, 3) = ap (λ b. mark_in b whiteout_field) (whiteout-whited n r f) in
-      let row = row-there seen bs at s p Whiteout 3 (taken-there (mark_in (is_whited s)) bs k whiteout_field (Whiteout, 3) white mark) (whiteout-back n r f) l in (
+      let mark : mark_in (has_whiteout_prefix s) whiteout_field ≡ Some (Whiteout, 3) = ap (λ b. mark_in b whiteout_field) (whiteout-prefixed n r f) in
+      let row = row-there seen bs at s p Whiteout 3 (taken-there (mark_in (has_whiteout_prefix s)) bs k whiteout_field (Whiteout, 3) white mark) (whiteout-back n r f) l in (
         k + 3,
         unit-there seen bs at s ((p, Whiteout), k + 3) is (step-there seen bs at s p Whiteout (k + 3) ((p, Whiteout), k + 3) (whiteout-no-marker n r f) row (unmarked p Whiteout (k + 3) bs refl (marker_at p bs (k + 3)))),
         behind bs k whiteout_field rest c,

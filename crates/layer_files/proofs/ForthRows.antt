@@ -13,7 +13,7 @@ use Rattle.trees.specs.Entries.{fine}
 use Rattle.trees.proofs.Grown.{Sound, grown_head}
 use Rattle.marks.specs.declared.mark.Mark.{Mark}
 use Rattle.marks.specs.declared.mark.Mark.TheVariants.{Whiteout, File, Dir, Opaque}
-use Rattle.marks.specs.Marks.{MarkRow, holds, ranged, sound, layered}
+use Rattle.marks.specs.Marks.{MarkRow, marks_dir, ranged, sound, layered}
 use Rattle.marks.proofs.Merges.{layer_parts}
 use Rattle.layer_fields.specs.declared.fault.LayerFault.{LayerFault}
 use Rattle.layer_fields.specs.declared.fault.Cause.TheVariants as cause
@@ -22,11 +22,12 @@ use Rattle.layer_fields.specs.Fields.{field_bytes}
 use Rattle.layer_fields.specs.Said.{text_of, count_of, version_of, text_field, entry_field, whiteout_field, version_field, count_field}
 use Rattle.layer_fields.specs.Texts.{whiteout_text, marker_text, is_marker}
 use Rattle.layer_fields.proofs.Read.{count-back}
-use Rattle.layer_fields.proofs.ReadTexts.{path-no-marker, path-short, marker-alone, whiteout-no-marker, whiteout-short}
+use Rattle.layer_fields.proofs.ReadTexts.{path-no-marker, marker-alone, whiteout-no-marker, whiteout-short}
 use Rattle.layer_files.specs.Files.{row_bytes, rows_bytes, encoded}
 use Rattle.layer_files.specs.Reads.{Step, fitting, under_dir, unit_of, unit_at, rows_from, versioned, decoded}
 use Rattle.layer_files.proofs.Forth.{Stands, field-there, behind, taken-there, Unmarked, row-back, two-fields, four-fields}
 use Rattle.layer_files.proofs.Placed.{Placed}
+use Rattle.trees.proofs.Fine.{fine-short}
 
 -- ---- what follows a row
 
@@ -40,11 +41,11 @@ module _ (p : Names) (f : fine p ≡ true) (rest : List ℕ) where
   row-unmarked (n ∷ r) Whiteout g h =
       led (whiteout_text (n ∷ r)) (field_bytes whiteout_field ++ rest) _ (whiteout-no-marker n r g) (whiteout-short n r g) (two-fields (text_field (whiteout_text (n ∷ r))) whiteout_field rest)
   row-unmarked q (File e) g h =
-      led (join q) (field_bytes (entry_field (entry.File e)) ++ rest) _ (path-no-marker q g) (omega (arith, path-short q g)) (two-fields (text_field (join q)) (entry_field (entry.File e)) rest)
+      led (join q) (field_bytes (entry_field (entry.File e)) ++ rest) _ (path-no-marker q g) (omega (arith, fine-short q g)) (two-fields (text_field (join q)) (entry_field (entry.File e)) rest)
   row-unmarked q (Dir d) g h =
-      led (join q) (field_bytes (entry_field (entry.Dir d)) ++ rest) _ (path-no-marker q g) (omega (arith, path-short q g)) (two-fields (text_field (join q)) (entry_field (entry.Dir d)) rest)
+      led (join q) (field_bytes (entry_field (entry.Dir d)) ++ rest) _ (path-no-marker q g) (omega (arith, fine-short q g)) (two-fields (text_field (join q)) (entry_field (entry.Dir d)) rest)
   row-unmarked q (Opaque d) g h =
-      led (join q) (field_bytes (entry_field (entry.Dir d)) ++ (field_bytes (text_field (marker_text q)) ++ (field_bytes whiteout_field ++ rest))) _ (path-no-marker q g) (omega (arith, path-short q g)) (four-fields (text_field (join q)) (entry_field (entry.Dir d)) (text_field (marker_text q)) whiteout_field rest)
+      led (join q) (field_bytes (entry_field (entry.Dir d)) ++ (field_bytes (text_field (marker_text q)) ++ (field_bytes whiteout_field ++ rest))) _ (path-no-marker q g) (omega (arith, fine-short q g)) (four-fields (text_field (join q)) (entry_field (entry.Dir d)) (text_field (marker_text q)) whiteout_field rest)
 
   count-unmarked : (n : ℕ) → Unmarked p (field_bytes (count_field n))
   count-unmarked n = record { first = count_field n; rest = []; is = sym (append-nil (field_bytes (count_field n))); short = omega arith; other = refl }
@@ -74,18 +75,18 @@ turn k seen bs at o h = ap (λ z. and_then z (turned k seen bs)) h
 
 module _ (all : List MarkRow) (a : ascending all ≡ true) (few : length all ≤ 192) where
   abbrev Sound-row : Names → Mark → Type 0
-  Sound-row p x = Sound ranged holds all (p, x)
+  Sound-row p x = Sound ranged marks_dir all (p, x)
 
   fits-so : (seen : List MarkRow) (p : Names) (x : Mark) (rest : List MarkRow) → all ≡ seen ++ (p, x) ∷ rest → Sound-row p x → fitting p x ≡ true
   fits-so seen [] x rest is s =
       let there : at all [] ≡ Some x = ap (λ z. at z []) is ∙ itself-there seen ([], x) rest (subst (λ z. ascending z ≡ true) is a) in
-      and_from (ranged x) (holds (Some x)) s.ranged (sym (ap holds there) ∙ s.under)
+      and_from (ranged x) (marks_dir (Some x)) s.ranged (sym (ap marks_dir there) ∙ s.under)
   fits-so seen (n ∷ p) x rest is s = s.ranged
 
   under-so : (seen : List MarkRow) (p : Names) (x : Mark) (rest : List MarkRow) → all ≡ seen ++ (p, x) ∷ rest → Sound-row p x → under_dir seen p ≡ true
   under-so seen [] x rest is s = refl
   under-so seen (n ∷ p) x rest is s =
-      passed-earlier seen (n ∷ p, x) rest (subst (λ z. ascending z ≡ true) is a) holds refl (parent (n ∷ p)) (parent-before n p) (subst (λ z. holds (at z (parent (n ∷ p))) ≡ true) is s.under)
+      passed-earlier seen (n ∷ p, x) rest (subst (λ z. ascending z ≡ true) is a) marks_dir refl (parent (n ∷ p)) (parent-before n p) (subst (λ z. marks_dir (at z (parent (n ∷ p))) ≡ true) is s.under)
 
   stood : (seen : List MarkRow) (p : Names) (x : Mark) (rest : List MarkRow) → all ≡ seen ++ (p, x) ∷ rest → Sound-row p x → Placed seen (p, x)
   stood seen p x rest is s = record {
@@ -102,7 +103,7 @@ module _ (all : List MarkRow) (a : ascending all ≡ true) (few : length all ≤
   next-unmarked : (p : Names) → fine p ≡ true → (seen rest : List MarkRow) → all ≡ seen ++ rest → sound all rest ≡ true → Unmarked p (rows_bytes rest ++ end)
   next-unmarked p f seen [] is s = count-unmarked p f [] (length all)
   next-unmarked p f seen (r ∷ rest) is s =
-      let t = stood seen r.0 r.1 rest is (grown_head ranged holds all r rest s).0 in
+      let t = stood seen r.0 r.1 rest is (grown_head ranged marks_dir all r rest s).0 in
       subst (Unmarked p) (sym (append_assoc (row_bytes r) (rows_bytes rest) end)) (row-unmarked p f (rows_bytes rest ++ end) r.0 r.1 t.good t.fits)
 
   module _ (bs : List ℕ) where
@@ -112,7 +113,7 @@ module _ (all : List MarkRow) (a : ascending all ≡ true) (few : length all ≤
         let same : all ≡ seen = is ∙ append-nil seen in
         turn k seen bs at None (ended-there seen bs at (omega (arith, ap length same)) (h ∙ ap (λ z. field_bytes (count_field (length z))) same)) ∙ ap Ok (sym same)
     rows-back (r ∷ rest) seen (suc k) at is s l h =
-        let g = grown_head ranged holds all r rest s in
+        let g = grown_head ranged marks_dir all r rest s in
         let after : List ℕ = rows_bytes rest ++ end in
         let more : all ≡ (seen ++ r ∷ []) ++ rest = is ∙ sym (append_assoc seen (r ∷ []) rest) in
         let t = stood seen r.0 r.1 rest is g.0 in

@@ -9,7 +9,7 @@ use Rattle.rows.proofs.Earlier.{passed-later, itself-there}
 use Rattle.trees.proofs.Fine.{Bytes}
 use Rattle.trees.proofs.Grown.{Sound, grown_more}
 use Rattle.marks.specs.declared.mark.Mark.{Mark}
-use Rattle.marks.specs.Marks.{MarkRow, holds, ranged, sound, layered}
+use Rattle.marks.specs.Marks.{MarkRow, marks_dir, ranged, sound, layered}
 use Rattle.marks.proofs.Merges.{layer_parts}
 use Rattle.layer_files.specs.Reads.{Step, unit_at, decoded}
 use Rattle.layer_files.proofs.Placed.{Placed, fits_ranged}
@@ -20,16 +20,16 @@ module _ (seen : List MarkRow) (l : layered seen ≡ true) where
   up : (r : MarkRow) → Placed seen r → ascending (seen ++ r ∷ []) ≡ true
   up r k = ascends_more seen r (layer_parts seen l).0 k.rise
 
-  parent_holds : (p : Names) (x : Mark) → Placed seen (p, x) → holds (at (seen ++ (p, x) ∷ []) (parent p)) ≡ true
-  parent_holds [] x k =
-      ap holds (itself-there seen ([], x) [] (up ([], x) k)) ∙ (and_parts (ranged x) (holds (Some x)) k.fits).1
-  parent_holds (n ∷ p) x k = passed-later seen (n ∷ p, x) [] (up (n ∷ p, x) k) holds refl (parent (n ∷ p)) k.under
+  parent_marked : (p : Names) (x : Mark) → Placed seen (p, x) → marks_dir (at (seen ++ (p, x) ∷ []) (parent p)) ≡ true
+  parent_marked [] x k =
+      ap marks_dir (itself-there seen ([], x) [] (up ([], x) k)) ∙ (and_parts (ranged x) (marks_dir (Some x)) k.fits).1
+  parent_marked (n ∷ p) x k = passed-later seen (n ∷ p, x) [] (up (n ∷ p, x) k) marks_dir refl (parent (n ∷ p)) k.under
 
-  pub layered_more : (r : MarkRow) → Placed seen r → layered (seen ++ r ∷ []) ≡ true
+  layered_more : (r : MarkRow) → Placed seen r → layered (seen ++ r ∷ []) ≡ true
   layered_more r k =
       let more = seen ++ r ∷ [] in
-      let last : Sound ranged holds more r = record { good = k.good; ranged = fits_ranged r.0 r.1 k.fits; under = parent_holds r.0 r.1 k } in
-      and_from (ascending more) (sound more more) (up r k) (grown_more ranged holds refl seen r (up r k) (layer_parts seen l).1 last)
+      let last : Sound ranged marks_dir more r = record { good = k.good; ranged = fits_ranged r.0 r.1 k.fits; under = parent_marked r.0 r.1 k } in
+      and_from (ascending more) (sound more more) (up r k) (grown_more ranged marks_dir refl seen r (up r k) (layer_parts seen l).1 last)
 
 -- a row that is read leaves a layer, and few rows are seen before it
 pub unit_more : (seen : List MarkRow) (bs : List ℕ) (at : ℕ) (t : Step) → layered seen ≡ true → unit_at seen bs at ≡ Ok (Some t) → (layered (seen ++ t.0 ∷ []) ≡ true) × (length seen < 192)

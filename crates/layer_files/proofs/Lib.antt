@@ -13,3 +13,4 @@ pub mod Markers
 pub mod Marked
 pub mod Turns
 pub mod Again
+pub mod Enough

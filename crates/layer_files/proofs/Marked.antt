@@ -11,7 +11,7 @@ use Rattle.layer_files.specs.Reads.{taken, whiteout_span, Step, marker_at, opaqu
 use Rattle.layer_files.specs.Readers.{past_marker, opaque_at}
 
 -- a directory is opaque if its marker follows
-pub dir_marked : (p : Names) (d : DirMeta) (bs : List ℕ) (at : ℕ) → marked_row bs ((p, Dir d), at) ≡ and_then {B = Step} (opaque_at p bs at) (λ b. Ok ((p, cond b.0 (Opaque d) (Dir d)), b.1))
+dir_marked : (p : Names) (d : DirMeta) (bs : List ℕ) (at : ℕ) → marked_row bs ((p, Dir d), at) ≡ and_then {B = Step} (opaque_at p bs at) (λ b. Ok ((p, cond b.0 (Opaque d) (Dir d)), b.1))
 dir_marked p d bs at = go (marker_at p bs at) where
   more : (f : Field) (r : Result ℕ LayerFault) → and_then {B = Step} r (λ n. Ok ((p, Opaque d), at + span f + n)) ≡ and_then {B = Step} (and_then {B = Bool × ℕ} r (λ n. Ok (true, at + span f + n))) (λ b. Ok ((p, cond b.0 (Opaque d) (Dir d)), b.1))
   more f (Ok n) = refl

@@ -15,10 +15,10 @@ same_parts (x ∷ a) b (y ∷ s) =
     ap (λ t. eqb y x && t) (same_parts a b s) ∙ sym (and_assoc (eqb y x) (pointwise eqb (take (length a) s) a) (same b (drop (length a) s)))
 
 -- but in the root, the marker's text is the directory's, a `/` and the name
-pub marker_below : (d s : List ℕ) → 0 < length d → same (marker_text (split d)) s ≡ (pointwise eqb (take (length d) s) d && same (47 ∷ opaque_name) (drop (length d) s))
+marker_below : (d s : List ℕ) → 0 < length d → same (marker_text (split d)) s ≡ (pointwise eqb (take (length d) s) d && same (47 ∷ opaque_name) (drop (length d) s))
 marker_below d s h = ap (λ t. same t s) (join-child d opaque_name h) ∙ same_parts d (47 ∷ opaque_name) s
 
-pub marker_rest : (r : List ℕ) → same (47 ∷ opaque_name) r ≡ (pointwise eqb (take 1 r) (47 ∷ []) && same opaque_name (drop 1 r))
+marker_rest : (r : List ℕ) → same (47 ∷ opaque_name) r ≡ (pointwise eqb (take 1 r) (47 ∷ []) && same opaque_name (drop 1 r))
 marker_rest r = same_parts (47 ∷ []) opaque_name r
 
 -- ---- as it is taken apart

@@ -7,7 +7,7 @@ use Rattle.trees.specs.declared.entry.DirMeta.{DirMeta}
 use Rattle.trees.specs.Entries.{fine}
 use Rattle.marks.specs.declared.mark.Mark.{Mark}
 use Rattle.marks.specs.declared.mark.Mark.TheVariants.{Dir, Opaque}
-use Rattle.marks.specs.Marks.{MarkRow, holds, ranged}
+use Rattle.marks.specs.Marks.{MarkRow, marks_dir, ranged}
 use Rattle.layer_fields.specs.declared.fault.Cause.{Cause}
 use Rattle.layer_fields.specs.declared.fault.Cause.TheVariants as cause
 use Rattle.layer_files.specs.Reads.{fitting, under_dir, placed}
@@ -37,7 +37,7 @@ placed_by seen p x k =
     ∙ cond-true (ltb (length seen) 192) (Ok (p, x)) (Err cause.TooMany) (lt-ltb (length seen) 192 k.few)
 
 pub fits_ranged : (p : Names) (x : Mark) → fitting p x ≡ true → ranged x ≡ true
-fits_ranged [] x h = (and_parts (ranged x) (holds (Some x)) h).0
+fits_ranged [] x h = (and_parts (ranged x) (marks_dir (Some x)) h).0
 fits_ranged (n ∷ p) x h = h
 
 fits_opaque : (p : Names) (d : DirMeta) → fitting p (Dir d) ≡ fitting p (Opaque d)

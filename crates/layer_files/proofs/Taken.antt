@@ -4,9 +4,9 @@ use Rattle.std.proofs.lemmas.List.{drop-drop, drop_all}
 use Rattle.std.proofs.lemmas.Bool.{and_parts, eqb-true}
 use Rattle.std.specs.Option.{option_map, option_and_then, ok_or}
 use Rattle.paths.specs.Names.{join, same}
-use Rattle.paths.specs.Steps.{and_then}
+use Rattle.paths.specs.Steps.{and_then, map_err}
 use Rattle.paths.proofs.Tests.{same-exact}
-use Rattle.paths.proofs.Granted.{then_ok, if_ok, if_some}
+use Rattle.paths.proofs.Granted.{then_ok, if_ok, if_some, mapped_ok}
 use Rattle.rows.specs.Maps.{Names}
 use Rattle.trees.specs.declared.entry.Entry.{Entry}
 use Rattle.trees.specs.declared.entry.Entry.TheVariants as entry
@@ -15,18 +15,17 @@ use Rattle.trees.proofs.Fine.{Bytes}
 use Rattle.marks.specs.declared.mark.Mark.{Mark}
 use Rattle.marks.specs.declared.mark.Mark.TheVariants.{Whiteout, File, Dir, Opaque}
 use Rattle.marks.specs.Marks.{MarkRow, mark_of}
-use Rattle.layer_fields.specs.declared.fault.Cause.{Cause}
 use Rattle.layer_fields.specs.declared.fault.Cause.TheVariants as cause
 use Rattle.layer_fields.specs.declared.fault.LayerFault.{LayerFault}
 use Rattle.layer_fields.specs.Faults.{fault_at}
 use Rattle.layer_fields.specs.Fields.{Field, field_bytes, front_field, span}
 use Rattle.layer_fields.specs.Said.{text_of, text_field, entry_of, entry_field, is_whiteout, whiteout_field, count_of, count_field}
-use Rattle.layer_fields.specs.Texts.{marker_text, is_marker, is_whited, row_path}
+use Rattle.layer_fields.specs.Texts.{marker_text, is_marker, has_whiteout_prefix, row_path}
 use Rattle.layer_fields.proofs.Fronts.{bytes_drop, fronted, text_field_is, entry_field_is, whiteout_field_is, count_field_is}
 use Rattle.layer_fields.proofs.RowTexts.{path_written, whiteout_written, row_path_fine}
 use Rattle.layer_files.specs.Files.{row_fields, fields_bytes, row_bytes}
 use Rattle.layer_files.proofs.Placed.{Placed, placed_ok, opaque_placed}
-use Rattle.layer_files.specs.Reads.{taken, positioned, mark_in, placed, Step, row_at, marks_opaque, marker_at, whiteout_span, opaque_if, marked_row, ended, row_step, unit_of, unit_at}
+use Rattle.layer_files.specs.Reads.{taken, mark_in, placed, Step, row_at, marks_opaque, marker_at, whiteout_span, opaque_if, marked_row, ended, row_step, unit_of, unit_at}
 
 -- ---- a rule that took a field
 
@@ -41,12 +40,6 @@ taken_ok rule bs at a h = go (front_field (drop at bs)) h where
   go : (o : Option Field) → ok_or (option_and_then rule o) (fault_at at cause.Field) ≡ Ok a → (f : Field) × (o ≡ Some f) × (rule f ≡ Some a)
   go None h = cc
   go (Some f) h = (f, refl, some_ok (rule f) (fault_at at cause.Field) a h)
-
-positioned_ok : {A : Type 0} (at : ℕ) (r : Result A Cause) (a : A) → positioned at r ≡ Ok a → r ≡ Ok a
-positioned_ok at (Ok b) a h =
-    let is : b ≡ a = cc in
-    ap Ok is
-positioned_ok at (Err c) a h = cc
 
 unless_ok : {A E : Type 0} (t : Bool) (r : Result A E) (e : E) (a : A) → cond t (Err e) r ≡ Ok a → r ≡ Ok a
 unless_ok true r e a h = cc
@@ -83,15 +76,15 @@ mark_span false f m h = go (entry_of f) h where
 
 -- a path's text and the field behind it are written for the mark that they give
 module _ (s : List ℕ) (p : Names) (f : Field) (m : Mark × ℕ) (path : row_path s ≡ Ok p) (b : Bytes f.1) where
-  entry_written : is_whited s ≡ false → (o : Option Entry) → entry_of f ≡ o → option_map (λ e. (mark_of e, span f)) o ≡ Some m → text_field s ∷ f ∷ [] ≡ row_fields p m.0
+  entry_written : has_whiteout_prefix s ≡ false → (o : Option Entry) → entry_of f ≡ o → option_map (λ e. (mark_of e, span f)) o ≡ Some m → text_field s ∷ f ∷ [] ≡ row_fields p m.0
   entry_written w None e h = cc
   entry_written w (Some v) e h =
       let is : mark_of v ≡ m.0 = cc in
       (λ i. text_field (path_written s p w path i) ∷ entry_field_is f v b e i ∷ []) ∙ sym (row_fields_of p v) ∙ ap (row_fields p) is
 
-  mark_written : mark_in (is_whited s) f ≡ Some m → text_field s ∷ f ∷ [] ≡ row_fields p m.0
-  mark_written h = go (is_whited s) refl h where
-    go : (t : Bool) → is_whited s ≡ t → mark_in t f ≡ Some m → text_field s ∷ f ∷ [] ≡ row_fields p m.0
+  mark_written : mark_in (has_whiteout_prefix s) f ≡ Some m → text_field s ∷ f ∷ [] ≡ row_fields p m.0
+  mark_written h = go (has_whiteout_prefix s) refl h where
+    go : (t : Bool) → has_whiteout_prefix s ≡ t → mark_in t f ≡ Some m → text_field s ∷ f ∷ [] ≡ row_fields p m.0
     go true w h =
         let q = if_some (is_whiteout f) (Some (Whiteout, span f)) m h in
         let is : Whiteout ≡ m.0 = cc q.1 in
@@ -103,7 +96,7 @@ pub record Taken (seen : List MarkRow) (bs : List ℕ) (at : ℕ) (t : Step) : T
   pub row : Placed seen t.0
   pub bytes : Bytes bs → drop at bs ≡ row_bytes t.0 ++ drop t.1 bs
 
-pub fields_append : (fs gs : List Field) → fields_bytes (fs ++ gs) ≡ fields_bytes fs ++ fields_bytes gs
+fields_append : (fs gs : List Field) → fields_bytes (fs ++ gs) ≡ fields_bytes fs ++ fields_bytes gs
 fields_append [] gs = refl
 fields_append (f ∷ fs) gs = ap (λ s. field_bytes f ++ s) (fields_append fs gs) ∙ sym (append_assoc (field_bytes f) (fields_bytes fs) (fields_bytes gs))
 
@@ -111,11 +104,11 @@ step_is : (x y : MarkRow) (at n k : ℕ) (r : Step) → x ≡ y → n ≡ k → 
 step_is x y at n k r e l h = cc
 
 module _ (seen : List MarkRow) (bs : List ℕ) where
-  row_read : (at : ℕ) (s : List ℕ) (p : Names) (f : Field) (m : Mark × ℕ) (x : MarkRow) (r : Step) → front_field (drop at bs) ≡ Some (text_field s) → front_field (drop (at + (3 + length s)) bs) ≡ Some f → mark_in (is_whited s) f ≡ Some m → row_path s ≡ Ok p → placed seen p m.0 ≡ Ok x → ◌≡◌ {A = Result Step LayerFault} (Ok (x, at + (3 + length s) + m.1)) (Ok r) → Taken seen bs at r
+  row_read : (at : ℕ) (s : List ℕ) (p : Names) (f : Field) (m : Mark × ℕ) (x : MarkRow) (r : Step) → front_field (drop at bs) ≡ Some (text_field s) → front_field (drop (at + (3 + length s)) bs) ≡ Some f → mark_in (has_whiteout_prefix s) f ≡ Some m → row_path s ≡ Ok p → placed seen p m.0 ≡ Ok x → ◌≡◌ {A = Result Step LayerFault} (Ok (x, at + (3 + length s) + m.1)) (Ok r) → Taken seen bs at r
   row_read at s p f m x r text there mark path place end =
       let next : ℕ = at + (3 + length s) in
       let k = placed_ok seen p m.0 x (row_path_fine s p path) place in
-      subst (Taken seen bs at) (step_is (p, m.0) x next (span f) m.1 r k.0 (mark_span (is_whited s) f m mark) end) (record {
+      subst (Taken seen bs at) (step_is (p, m.0) x next (span f) m.1 r k.0 (mark_span (has_whiteout_prefix s) f m mark) end) (record {
         row = k.1;
         bytes = λ b.
             let w = mark_written s p f m path (field_read bs b next f there).1 mark in
@@ -125,10 +118,10 @@ module _ (seen : List MarkRow) (bs : List ℕ) where
   row_taken : (at : ℕ) (s : List ℕ) (r : Step) → front_field (drop at bs) ≡ Some (text_field s) → row_at seen bs at s ≡ Ok r → Taken seen bs at r
   row_taken at s r text h =
       let next : ℕ = at + (3 + length s) in
-      let m = then_ok (taken (mark_in (is_whited s)) bs next) (λ m. and_then (positioned at (and_then (row_path s) (λ p. placed seen p m.0))) (λ r. Ok (r, next + m.1))) r h in
-      let f = taken_ok (mark_in (is_whited s)) bs next m.0 m.1 in
-      let x = then_ok (positioned at (and_then (row_path s) (λ p. placed seen p m.0.0))) (λ r. Ok (r, next + m.0.1)) r m.2 in
-      let p = then_ok (row_path s) (λ p. placed seen p m.0.0) x.0 (positioned_ok at (and_then (row_path s) (λ p. placed seen p m.0.0)) x.0 x.1) in
+      let m = then_ok (taken (mark_in (has_whiteout_prefix s)) bs next) (λ m. and_then (map_err (fault_at at) (and_then (row_path s) (λ p. placed seen p m.0))) (λ r. Ok (r, next + m.1))) r h in
+      let f = taken_ok (mark_in (has_whiteout_prefix s)) bs next m.0 m.1 in
+      let x = then_ok (map_err (fault_at at) (and_then (row_path s) (λ p. placed seen p m.0.0))) (λ r. Ok (r, next + m.0.1)) r m.2 in
+      let p = then_ok (row_path s) (λ p. placed seen p m.0.0) x.0 (mapped_ok (fault_at at) (and_then (row_path s) (λ p. placed seen p m.0.0)) x.0 x.1) in
       row_read at s p.0 f.0 m.0 x.0 r text f.1 f.2 p.1 p.2 x.2
 
   -- the marker of a directory, as it is written

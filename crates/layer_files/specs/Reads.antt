@@ -2,29 +2,24 @@
 use Rattle.std.specs.Prelude.{ℕ, zero, suc, ◌+◌, Bool, true, false, cond, ◌&&◌, List, [], ◌∷◌, ◌++◌, length, drop, Some, None, Ok, Err, Option, Result, ◌==◌, nat_lt}
 use Rattle.std.specs.Option.{option_map, option_and_then, ok_or}
 use Rattle.paths.specs.Names.{same, parent}
-use Rattle.paths.specs.Steps.{and_then}
+use Rattle.paths.specs.Steps.{and_then, map_err}
 use Rattle.rows.specs.Maps.{Names, at, rises}
 use Rattle.marks.specs.declared.mark.Mark.{Mark}
 use Rattle.marks.specs.declared.mark.Mark.TheVariants.{Whiteout, File, Dir, Opaque}
-use Rattle.marks.specs.Marks.{MarkRow, mark_of, holds, ranged}
+use Rattle.marks.specs.Marks.{MarkRow, mark_of, marks_dir, ranged}
 use Rattle.layer_fields.specs.declared.fault.Cause.{Cause}
 use Rattle.layer_fields.specs.declared.fault.Cause.TheVariants as cause
 use Rattle.layer_fields.specs.declared.fault.LayerFault.{LayerFault}
 use Rattle.layer_fields.specs.Faults.{fault_at}
 use Rattle.layer_fields.specs.Fields.{Field, front_field, span}
 use Rattle.layer_fields.specs.Said.{version_of, text_of, entry_of, is_whiteout, count_of}
-use Rattle.layer_fields.specs.Texts.{marker_text, is_marker, is_whited, row_path}
+use Rattle.layer_fields.specs.Texts.{marker_text, is_marker, has_whiteout_prefix, row_path}
 
 -- ---- one field
 
 -- the field at a position, as far as the rule takes it
 abbrev pub taken : {A : Type 0} → (Field → Option A) → List ℕ → ℕ → Result A LayerFault
 taken rule bs at = ok_or (option_and_then rule (front_field (drop at bs))) (fault_at at cause.Field)
-
--- a refusal of a row, with the position of its path field
-abbrev pub positioned : {A : Type 0} → ℕ → Result A Cause → Result A LayerFault
-positioned at (Ok a) = Ok a
-positioned at (Err c) = Err (fault_at at c)
 
 -- ---- one row
 
@@ -35,13 +30,13 @@ mark_in false f = option_map (λ e. (mark_of e, span f)) (entry_of f)
 
 -- the entry is in range, and the root is a directory
 abbrev pub fitting : Names → Mark → Bool
-fitting [] x = ranged x && holds (Some x)
+fitting [] x = ranged x && marks_dir (Some x)
 fitting (n ∷ p) x = ranged x
 
 -- a path under an earlier directory; the root needs none
 abbrev pub under_dir : List MarkRow → Names → Bool
 under_dir seen [] = true
-under_dir seen (n ∷ p) = holds (at seen (parent (n ∷ p)))
+under_dir seen (n ∷ p) = marks_dir (at seen (parent (n ∷ p)))
 
 -- a row behind those seen: its value, its order, its parent, its number
 abbrev pub placed : List MarkRow → Names → Mark → Result MarkRow Cause
@@ -52,11 +47,12 @@ placed seen p x =
 abbrev pub Step : Type 0
 Step = MarkRow × ℕ
 
--- the row whose path field, with the text s, stands at a position: both fields, then the path, then the place
+-- the row whose path field, with the text s, stands at a position: both fields, then the path, then the place; a refusal of
+-- these two has the position of the path field
 abbrev pub row_at : List MarkRow → List ℕ → ℕ → List ℕ → Result Step LayerFault
 row_at seen bs at s =
-    and_then (taken (mark_in (is_whited s)) bs (at + (3 + length s))) (λ m.
-    and_then (positioned at (and_then (row_path s) (λ p. placed seen p m.0))) (λ r.
+    and_then (taken (mark_in (has_whiteout_prefix s)) bs (at + (3 + length s))) (λ m.
+    and_then (map_err (fault_at at) (and_then (row_path s) (λ p. placed seen p m.0))) (λ r.
     Ok (r, at + (3 + length s) + m.1)))
 
 -- ---- the marker of an opaque directory

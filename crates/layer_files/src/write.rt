@@ -1,6 +1,6 @@
 // Layer files as they are written.
-ghost use Rattle.std.specs.Prelude.{◌≡◌, ◌+◌, ◌≤◌, ◌++◌, length, take, drop, if◌then◌else◌, Ok, Err, IfOk, nat_lt};
-ghost use Rattle.trees.specs.declared.fault.Fault.TheVariants.{ShortBuffer};
+ghost use Rattle.std.specs.Prelude.{◌≡◌, ◌+◌, ◌≤◌, ◌++◌, length, take, drop, Ok, IfOk};
+ghost use Rattle.trees.specs.Buffers.{fitted, put_front};
 ghost use Rattle.layers.specs.Layers.{marks_of};
 ghost use Rattle.layer_files.specs.Files.{encoded};
 ghost use Rattle.layer_files.specs.Reads.{decoded};
@@ -49,8 +49,8 @@ fn fill(layer: &Layer, buffer: &mut [u8])
 // Writes the file of a layer, and answers how many bytes that are. A buffer that is too short is left alone. What is
 // written would be read as that layer.
 pub fn write(layer: &Layer, buffer: &mut [u8]) -> Result<usize, Fault>
-    ensures answer { result ≡ (if nat_lt (length buffer.old) (length (encoded (marks_of layer.now))) then Err ShortBuffer else Ok (length (encoded (marks_of layer.now)))) }
-    ensures after { buffer.new ≡ (if nat_lt (length buffer.old) (length (encoded (marks_of layer.now))) then buffer.old else encoded (marks_of layer.now) ++ drop (length (encoded (marks_of layer.now))) buffer.old) }
+    ensures answer { result ≡ fitted (encoded (marks_of layer.now)) (length buffer.old) }
+    ensures after { buffer.new ≡ put_front (encoded (marks_of layer.now)) buffer.old }
     ensures reads_back { IfOk result (λ n. decoded (take n buffer.new) ≡ Ok (marks_of layer.now)) }
 {
     let len = measure(layer);

@@ -1,10 +1,8 @@
 // Whether a row may follow the rows before it.
-ghost use Rattle.std.specs.Prelude.{◌≡◌, Ok, Err, Some, MatchResult};
+ghost use Rattle.std.specs.Prelude.{◌≡◌, Ok, Err, MatchResult};
 ghost use Rattle.paths.specs.Paths.{names};
 ghost use Rattle.paths.specs.Steps.{and_then};
-ghost use Rattle.rows.specs.Maps.{rises};
 ghost use Rattle.rows.specs.Rows.{row_of};
-ghost use Rattle.marks.specs.Marks.{holds};
 ghost use Rattle.layers.specs.Layers.{marks_of};
 ghost use Rattle.layer_fields.specs.Texts.{row_path};
 ghost use Rattle.layer_files.specs.Reads.{fitting, under_dir, placed};
@@ -14,29 +12,15 @@ use layer_fields::texts::row_path;
 use layers::layer::{Layer, ROWS};
 use marks::mark::Mark;
 use paths::Path;
+use rows::order::rises;
 use rows::row::Row;
 use trees::entry::Entry;
-
-// Whether a mark is of a directory.
-fn is_dir(mark: Mark) -> bool
-    ensures { result ≡ holds (Some mark) }
-{
-    matches!(mark, Mark::Dir(_) | Mark::Opaque(_))
-}
 
 // Whether the entry is in range, and the root is a directory.
 fn is_fitting(path: &Path, mark: Mark) -> bool
     ensures { result ≡ fitting (names path.now) mark }
 {
-    mark.entry().is_none_or(Entry::is_in_range) && (path.depth() > 0 || is_dir(mark))
-}
-
-// Whether a path comes after the rows.
-fn rises(seen: &Layer, path: &Path) -> bool
-    ensures { result ≡ rises (marks_of seen.now) (names path.now) }
-{
-    let rows = seen.rows.as_rows();
-    rows.last().is_none_or(|last| last.path < *path)
+    mark.entry().is_none_or(Entry::is_in_range) && (path.depth() > 0 || mark.is_dir())
 }
 
 // Whether a row is the directory that a path lies in; the root needs none.
@@ -46,7 +30,7 @@ fn is_under_dir(seen: &Layer, path: &Path) -> bool
     let Some(parent) = path.parent() else {
         return true;
     };
-    seen.mark(&parent).is_some_and(is_dir)
+    seen.mark(&parent).is_some_and(Mark::is_dir)
 }
 
 // Whether a row may stand behind the rows seen.
@@ -56,7 +40,7 @@ fn admit(seen: &Layer, path: &Path, mark: Mark) -> Result<(), Cause>
     if !is_fitting(path, mark) {
         return Err(Cause::Value);
     }
-    if !rises(seen, path) {
+    if !rises(seen.rows.as_rows(), path) {
         return Err(Cause::Order);
     }
     if !is_under_dir(seen, path) {

@@ -3,7 +3,7 @@ ghost use Rattle.std.specs.Prelude.{◌≡◌, ◌+◌, ℕ, length, Ok, Err, So
 ghost use Rattle.paths.specs.Paths.{names};
 ghost use Rattle.rows.specs.Rows.{row_of};
 ghost use Rattle.layers.specs.Layers.{marks_of};
-ghost use Rattle.layer_fields.specs.Texts.{is_whited};
+ghost use Rattle.layer_fields.specs.Texts.{has_whiteout_prefix};
 ghost use Rattle.layer_files.specs.Reads.{taken, mark_in, marked_row, ended, row_step, unit_at};
 ghost use Rattle.layer_files.specs.Readers.{opaque_at};
 
@@ -11,7 +11,7 @@ use crate::read::admit::place;
 use crate::read::marker::is_marker_of;
 use crate::read::reader::{Reader, misplaced};
 use layer_fields::fault::{Cause, LayerFault};
-use layer_fields::texts::{is_marker, is_whited};
+use layer_fields::texts::{has_whiteout_prefix, is_marker};
 use layers::layer::Layer;
 use marks::mark::Mark;
 use paths::Path;
@@ -21,9 +21,9 @@ impl Reader<'_> {
     // The mark of a row, whose path field has that text.
     fn mark(&mut self, text: &[u8]) -> Result<Mark, LayerFault>
         ensures bytes { self.new.bytes.now ≡ self.old.bytes.now }
-        ensures mark { MatchResult result (λ m. (n : ℕ) × (taken (mark_in (is_whited text.now)) self.old.bytes.now self.old.at ≡ Ok (m, n)) × (self.new.at ≡ self.old.at + n)) (λ e. taken (mark_in (is_whited text.now)) self.old.bytes.now self.old.at ≡ Err e) }
+        ensures mark { MatchResult result (λ m. (n : ℕ) × (taken (mark_in (has_whiteout_prefix text.now)) self.old.bytes.now self.old.at ≡ Ok (m, n)) × (self.new.at ≡ self.old.at + n)) (λ e. taken (mark_in (has_whiteout_prefix text.now)) self.old.bytes.now self.old.at ≡ Err e) }
     {
-        if is_whited(text) {
+        if has_whiteout_prefix(text) {
             self.whiteout()?;
             return Ok(Mark::Whiteout);
         }
