@@ -56,7 +56,7 @@ rows_same (x ∷ a) (y ∷ b) e =
     let t = rows_same a b tail in
     cc
 
-pub rows_eq : (a b : List (Row Entry)) (r : Bool) → r ≡ pointwise eq a b → Decides r (rows_of a ≡ rows_of b)
+rows_eq : (a b : List (Row Entry)) (r : Bool) → r ≡ pointwise eq a b → Decides r (rows_of a ≡ rows_of b)
 rows_eq a b r is =
     let d = slice_eq-Decides row_eq a b r is in
     (λ h. ap rows_of (d.0 h), λ s. d.1 (rows_same a b s))

@@ -2,10 +2,9 @@
 
 #![tactic(auto)]
 
-ghost use Rattle.std.specs.Prelude.{◌≡◌, true, ◌&&◌};
-ghost use Rattle.rows.specs.Maps.{ascending};
+ghost use Rattle.std.specs.Prelude.{◌≡◌, true};
 ghost use Rattle.rows.specs.Sorts.{kept};
-ghost use Rattle.trees.specs.Entries.{closed};
+ghost use Rattle.trees.specs.Entries.{is_tree};
 
 use rows::sorted::Sorted;
 use trees::entry::Entry;
@@ -15,5 +14,5 @@ pub mod loading;
 #[derive(Drop)]
 pub struct Manifest<'a> {
     rows: Sorted<'a, Entry>,
-    ghost built: { (ascending (kept rows) && closed (kept rows) (kept rows)) ≡ true },
+    ghost built: { is_tree (kept rows) ≡ true },
 }

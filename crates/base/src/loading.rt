@@ -43,6 +43,15 @@ impl<'a> Manifest<'a> {
         }
     }
 
+    // The tree of a text, over its rows. They have to be exactly the text's.
+    pub fn read(text: &[u8], rows: &'a [Row<Entry>]) -> Result<Manifest<'a>, ManifestFault>
+        ensures { MatchResult result (λ m. (indexed (length rows.now) text.now ≡ Ok (rows_of rows.now)) × (kept m.rows ≡ rows_of rows.now)) (λ f. Refused (rows_of rows.now) (indexed (length rows.now) text.now) f) }
+    {
+        let mut tree = Manifest::empty();
+        tree.load(text, rows)?;
+        Ok(tree)
+    }
+
     // Takes the rows of a text in place of those it has. They have to be exactly the text's.
     pub fn load(&mut self, text: &[u8], rows: &'a [Row<Entry>]) -> Result<(), ManifestFault>
         ensures { MatchResult result (λ _. (indexed (length rows.now) text.now ≡ Ok (rows_of rows.now)) × (kept self.new.rows ≡ rows_of rows.now)) (λ f. Refused (rows_of rows.now) (indexed (length rows.now) text.now) f × (self.new ≡ self.old)) }

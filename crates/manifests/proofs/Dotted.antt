@@ -1,25 +1,14 @@
 -- The path word of a listed path reads back. Assumes nothing.
-use Rattle.std.proofs.Common.{◌≡◌, ℕ, true, ltb, List, [], ◌∷◌, length, Some, None, Ok, ap, ◌∙◌, arith}
-use Rattle.std.proofs.lemmas.Bool.{cond-true, lt-ltb}
-use Rattle.paths.specs.Names.{join, judge}
+use Rattle.std.proofs.Common.{◌≡◌, true, Ok, ap, ◌∙◌}
+use Rattle.paths.specs.Names.{join}
 use Rattle.rows.specs.Maps.{Names}
 use Rattle.trees.specs.Entries.{fine}
 use Rattle.trees.proofs.Fine.{fine-bytes, judge-fine}
 use Rattle.listing.specs.Lines.{dotted}
-use Rattle.paths.specs.Steps.{and_then_some}
-use Rattle.words.specs.Words.{undotted, held, judged_word, path_of}
-use Rattle.manifests.proofs.Undoing.{Bytes, undone-dotted, undone_dot}
-
--- ---- the word
-
-undotted_path : (b : ℕ) (bs : List ℕ) → undotted (46 ∷ 47 ∷ b ∷ bs) ≡ Some (b ∷ bs)
-undotted_path b bs =
-    cond-true (ltb 2 (length (46 ∷ 47 ∷ b ∷ bs))) (Some (b ∷ bs)) None (lt-ltb 2 (length (46 ∷ 47 ∷ b ∷ bs)) (omega arith))
-
-path_word : (s : List ℕ) → Bytes s → path_of (dotted s) ≡ held (judge s)
-path_word [] h = ap (λ o. judged_word (and_then_some o undotted)) undone_dot
-path_word (b ∷ bs) h =
-    ap (λ o. judged_word (and_then_some o undotted)) (undone-dotted (b ∷ bs) h) ∙ ap judged_word (undotted_path b bs)
+use Rattle.paths.specs.Steps.{map_err}
+use Rattle.words.specs.declared.fault.Cause.TheVariants.{Path}
+use Rattle.listing.proofs.Undoing.{dotted_back}
+use Rattle.words.specs.Words.{judged_word, path_of}
 
 pub path_back : (p : Names) → fine p ≡ true → path_of (dotted (join p)) ≡ Ok p
-path_back p f = path_word (join p) (fine-bytes p f) ∙ ap held (judge-fine p f)
+path_back p f = ap judged_word (dotted_back (join p) (fine-bytes p f)) ∙ ap (map_err Path) (judge-fine p f)

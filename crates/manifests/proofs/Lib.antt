@@ -1,15 +1,10 @@
-pub mod Undoing
 pub mod Dotted
-pub mod Numerals
-pub mod Splits
-pub mod Sizes
 pub mod ReadFields
 pub mod ListedLines
 pub mod Placing
 pub mod ReadBack
 pub mod LastRow
 pub mod BuiltRows
-pub mod PlacedRow
 pub mod ReadLines
 pub mod Limits
 pub mod Readers

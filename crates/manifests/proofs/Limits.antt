@@ -9,14 +9,14 @@ use Rattle.trees.specs.declared.entry.Entry.{Entry}
 use Rattle.trees.specs.Entries.{Row}
 use Rattle.words.specs.declared.fault.Cause.TheVariants.{Header, Word, Order, Parent, TooMany}
 use Rattle.manifests.specs.declared.fault.ManifestFault.{ManifestFault}
-use Rattle.paths.specs.Steps.{and_then}
+use Rattle.paths.specs.Steps.{and_then, map_err}
 use Rattle.words.specs.Words.{path_of}
 use Rattle.mtree.specs.Keywords.{entry_of}
-use Rattle.manifests.specs.Manifests.{under_dir, placed, row_of_line, fault_at, positioned, rows_from, header}
+use Rattle.manifests.specs.Manifests.{under_dir, placed, row_of_line, fault_at, rows_from}
 use Rattle.manifests.specs.Laws.{IndexThenLoad}
-use Rattle.paths.proofs.Granted.{then_ok, if_ok}
-use Rattle.manifests.proofs.BuiltRows.{positioned-ok}
+use Rattle.paths.proofs.Granted.{then_ok, if_ok, mapped_ok}
 use Rattle.manifests.proofs.ReadLines.{row_room}
+use Rattle.listing.specs.Lines.{header}
 
 module _ (limit other : ℕ) where
   -- ---- a line that is taken is taken under any limit that leaves it room
@@ -56,13 +56,13 @@ module _ (limit other : ℕ) where
       (omega arith, λ few. omega arith, λ enough. h)
   rows-within (l ∷ m ∷ ls) pos done all h =
       let next : ℕ = pos + (length l + 1) in
-      let p = then_ok (positioned pos (row_of_line limit done l)) (λ r. rows_from limit next (done ++ r ∷ []) (m ∷ ls)) all h in
-      let row = positioned-ok pos (row_of_line limit done l) p.0 p.1 in
+      let p = then_ok (map_err (fault_at pos) (row_of_line limit done l)) (λ r. rows_from limit next (done ++ r ∷ []) (m ∷ ls)) all h in
+      let row = mapped_ok (fault_at pos) (row_of_line limit done l) p.0 p.1 in
       let room = row_room limit done l p.0 row in
       let longer = length-append done (p.0 ∷ []) in
       let more = rows-within (m ∷ ls) next (done ++ p.0 ∷ []) all p.2 in
       let less : length done < length all = omega (arith, more.0) in
-      (omega arith, λ few. more.1 (omega arith), λ enough. ap (λ o. and_then (positioned pos o) (λ r. rows_from other next (done ++ r ∷ []) (m ∷ ls))) (line-within done l p.0 (omega arith) row) ∙ more.2 enough)
+      (omega arith, λ few. more.1 (omega arith), λ enough. ap (λ o. and_then (map_err (fault_at pos) o) (λ r. rows_from other next (done ++ r ∷ []) (m ∷ ls))) (line-within done l p.0 (omega arith) row) ∙ more.2 enough)
 
 -- ---- the whole text
 

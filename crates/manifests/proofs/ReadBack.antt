@@ -5,12 +5,13 @@ use Rattle.paths.specs.Names.{join, parent, begins}
 use Rattle.paths.specs.Pieces.{pieces}
 use Rattle.rows.specs.Maps.{at, ascending}
 use Rattle.trees.specs.Entries.{Row, is_dir, in_range, fine, closed}
-use Rattle.listing.specs.Lines.{dotted, keywords, lines, listing}
+use Rattle.trees.proofs.Closed.{tree_parts}
+use Rattle.listing.specs.Lines.{dotted, keywords, lines, listing, header}
 use Rattle.words.specs.declared.fault.Cause.TheVariants.{Header}
-use Rattle.paths.specs.Steps.{and_then}
-use Rattle.manifests.specs.Manifests.{row_of_line, fault_at, positioned, rows_from, header}
+use Rattle.paths.specs.Steps.{and_then, map_err}
+use Rattle.manifests.specs.Manifests.{row_of_line, fault_at, rows_from}
 use Rattle.manifests.specs.Laws.{ListingReadsBack}
-use Rattle.manifests.proofs.Splits.{pieces_part}
+use Rattle.words.proofs.Splits.{above-lacks, pieces_part}
 use Rattle.manifests.proofs.ListedLines.{text_of, text_one_line, row_back}
 use Rattle.manifests.proofs.Placing.{placed_back}
 
@@ -24,7 +25,7 @@ lines-first r rs =
 
 pieces-first : (r : Row) (rs : List Row) → in_range r.1 ≡ true → pieces 10 (lines (r ∷ rs)) ≡ text_of r.0 r.1 ∷ pieces 10 (lines rs)
 pieces-first r rs h =
-    ap (pieces 10) (lines-first r rs) ∙ pieces_part 10 (text_of r.0 r.1) (lines rs) (text_one_line r.0 r.1 h)
+    ap (pieces 10) (lines-first r rs) ∙ pieces_part 10 (text_of r.0 r.1) (lines rs) (above-lacks 10 (text_of r.0 r.1) (text_one_line r.0 r.1 h))
 
 -- ---- line by line
 
@@ -43,14 +44,14 @@ module _ (all : List Row) (a : ascending all ≡ true) (limit : ℕ) (few : leng
       let s = and_parts (fine r.0) (in_range r.1) q.0 in
       let next : ℕ = pos + (length (text_of r.0 r.1) + 1) in
       ap (rows_from limit pos done) (pieces-first r rest s.1)
-      ∙ ap (λ o. and_then (positioned pos o) (λ x. rows_from limit next (done ++ x ∷ []) (pieces 10 (lines rest)))) (row_next done r rest is s.0 s.1 q.1)
+      ∙ ap (λ o. and_then (map_err (fault_at pos) o) (λ x. rows_from limit next (done ++ x ∷ []) (pieces 10 (lines rest)))) (row_next done r rest is s.0 s.1 q.1)
       ∙ rows_back rest next (done ++ r ∷ []) (is ∙ sym (append_assoc done (r ∷ []) rest)) p.1
 
 -- ---- the whole text
 
 pub listing_reads_back : ListingReadsBack
 listing_reads_back e given fits few room =
-    let ok = and_parts (ascending e.rows) (closed e.rows e.rows) e.ok in
+    let ok = tree_parts e.rows e.ok in
     let least : length e.rows ≤ min given 1024 = omega arith in
     cond-true (leb (length (listing e.rows)) 65536 && begins header (listing e.rows)) (rows_from (min given 1024) 7 [] (pieces 10 (lines e.rows))) (Err (fault_at 0 Header)) (and_from (leb (length (listing e.rows)) 65536) (begins header (listing e.rows)) (le-leb (length (listing e.rows)) 65536 fits) refl)
     ∙ rows_back e.rows ok.0 (min given 1024) least e.rows 7 [] refl ok.1

@@ -16,38 +16,39 @@ use Rattle.trees.specs.Entries.{Row}
 use Rattle.words.specs.declared.fault.Cause.{Cause}
 use Rattle.words.specs.declared.fault.Cause.TheVariants.{Word, Order, Parent, TooMany}
 use Rattle.manifests.specs.declared.fault.ManifestFault.{ManifestFault}
-use Rattle.paths.specs.Steps.{and_then}
+use Rattle.paths.specs.Steps.{and_then, map_err}
 use Rattle.words.specs.Words.{path_of}
 use Rattle.mtree.specs.Keywords.{entry_of}
 use Rattle.mtree.specs.Lines.{line_of}
-use Rattle.manifests.specs.Manifests.{under_dir, placed, row_of_line, fault_at, positioned, rows_from, header, rows_in}
+use Rattle.manifests.specs.Manifests.{under_dir, placed, row_of_line, fault_at, rows_from, rows_in}
 use Rattle.manifests.specs.Readers.{ended, row_of_ended}
+use Rattle.listing.specs.Lines.{header}
 
 module _ (limit at : ℕ) (rows : List Row) (s : List ℕ) where
   module _ (h : length (front 10 s) < length s) where
-    two : rows_from limit at rows (pieces 10 s) ≡ and_then (positioned at (row_of_line limit rows (front 10 s))) (λ r. rows_from limit (at + (length (front 10 s) + 1)) (rows ++ r ∷ []) (pieces 10 (drop (suc (length (front 10 s))) s)))
+    two : rows_from limit at rows (pieces 10 s) ≡ and_then (map_err (fault_at at) (row_of_line limit rows (front 10 s))) (λ r. rows_from limit (at + (length (front 10 s) + 1)) (rows ++ r ∷ []) (pieces 10 (drop (suc (length (front 10 s))) s)))
     unfolding rows_from
     two = ap (λ l. rows_from limit at rows (front 10 s ∷ l)) (later-some 10 s h)
 
-    pub rows_turn : (r : Row) → row_of_line limit rows (front 10 s) ≡ Ok r → rows_from limit at rows (pieces 10 s) ≡ rows_from limit (at + (length (front 10 s) + 1)) (rows ++ r ∷ []) (pieces 10 (drop (length (front 10 s) + 1) s))
+    rows_turn : (r : Row) → row_of_line limit rows (front 10 s) ≡ Ok r → rows_from limit at rows (pieces 10 s) ≡ rows_from limit (at + (length (front 10 s) + 1)) (rows ++ r ∷ []) (pieces 10 (drop (length (front 10 s) + 1) s))
     rows_turn r e =
         two
-        ∙ ap (λ x. and_then (positioned at x) (λ r. rows_from limit (at + (length (front 10 s) + 1)) (rows ++ r ∷ []) (pieces 10 (drop (suc (length (front 10 s))) s)))) e
+        ∙ ap (λ x. and_then (map_err (fault_at at) x) (λ r. rows_from limit (at + (length (front 10 s) + 1)) (rows ++ r ∷ []) (pieces 10 (drop (suc (length (front 10 s))) s)))) e
         ∙ ap (λ n. rows_from limit (at + (length (front 10 s) + 1)) (rows ++ r ∷ []) (pieces 10 (drop n s))) (sym (add-one (length (front 10 s))))
 
-    pub rows_stop : (c : Cause) → row_of_line limit rows (front 10 s) ≡ Err c → rows_from limit at rows (pieces 10 s) ≡ Err (fault_at at c)
+    rows_stop : (c : Cause) → row_of_line limit rows (front 10 s) ≡ Err c → rows_from limit at rows (pieces 10 s) ≡ Err (fault_at at c)
     rows_stop c e =
-        two ∙ ap (λ x. and_then (positioned at x) (λ r. rows_from limit (at + (length (front 10 s) + 1)) (rows ++ r ∷ []) (pieces 10 (drop (suc (length (front 10 s))) s)))) e
+        two ∙ ap (λ x. and_then (map_err (fault_at at) x) (λ r. rows_from limit (at + (length (front 10 s) + 1)) (rows ++ r ∷ []) (pieces 10 (drop (suc (length (front 10 s))) s)))) e
 
   module _ (h : length (front 10 s) ≡ length s) where
     one : rows_from limit at rows (pieces 10 s) ≡ cond (eqb (length (front 10 s)) 0) (Ok rows) (Err (fault_at at Word))
     unfolding rows_from
     one = ap (λ l. rows_from limit at rows (front 10 s ∷ l)) (later-none 10 s h)
 
-    pub rows_end : length s ≡ 0 → rows_from limit at rows (pieces 10 s) ≡ Ok rows
+    rows_end : length s ≡ 0 → rows_from limit at rows (pieces 10 s) ≡ Ok rows
     rows_end z = one ∙ cond-true (eqb (length (front 10 s)) 0) _ _ (eq-eqb _ 0 (h ∙ z))
 
-    pub rows_cut : 0 < length s → rows_from limit at rows (pieces 10 s) ≡ Err (fault_at at Word)
+    rows_cut : 0 < length s → rows_from limit at rows (pieces 10 s) ≡ Err (fault_at at Word)
     rows_cut l = one ∙ cond-false (eqb (length (front 10 s)) 0) _ _ (ne_eqb _ 0 (λ z. omega arith))
 
 -- what a line says, and then its place
@@ -124,13 +125,13 @@ module _ (limit at : ℕ) (rows : List Row) (s x more : List ℕ) (parts : s ≡
     says_cut : row_of_ended limit rows x ≡ Err Word
     says_cut = ap (row_of_ended limit rows) all_cut ∙ ap (λ o. and_then o (λ l. row_of_line limit rows l)) (ended_cut s some (first.0 (length s - 1) 0 (omega arith) (omega arith)))
 
-  pub line_stops : (c : Cause) → row_of_ended limit rows x ≡ Err c → rows_from limit at rows (pieces 10 s) ≡ Err (fault_at at c)
+  line_stops : (c : Cause) → row_of_ended limit rows x ≡ Err c → rows_from limit at rows (pieces 10 s) ≡ Err (fault_at at c)
   line_stops c e = ⊎_elim
       (λ here. rows_stop limit at rows s (omega (arith, at_place here)) c (sym (says_whole here) ∙ e))
       (λ none. let same : Word ≡ c = cc (says_cut none) in rows_cut limit at rows s (place (length s) none (omega arith) (λ l. absurd (omega arith))) some ∙ ap (λ w. Err (fault_at at w)) same)
       (cases_lt i (length s))
 
-  pub line_turns : (r : Row) → row_of_ended limit rows x ≡ Ok r → rows_from limit at rows (pieces 10 s) ≡ rows_from limit (at + length x) (rows ++ r ∷ []) (pieces 10 more)
+  line_turns : (r : Row) → row_of_ended limit rows x ≡ Ok r → rows_from limit at rows (pieces 10 s) ≡ rows_from limit (at + length x) (rows ++ r ∷ []) (pieces 10 more)
   line_turns r e = ⊎_elim
       (λ here.
       let n : length (front 10 s) + 1 ≡ length x = omega (arith, at_place here) in

@@ -1,33 +1,26 @@
 -- What a line adds to a reader's rows. Assumes nothing.
-use Rattle.std.proofs.Common.{◌≡◌, ◌<◌, List, ℕ, [], ◌∷◌, ◌++◌, length, cond, ltb, Option, Ok, Err, Result, sym, ap, ◌∙◌, subst, arith}
+use Rattle.std.proofs.Common.{◌≡◌, ◌<◌, List, ℕ, [], ◌∷◌, ◌++◌, length, Ok, Err, Result, sym, ap, ◌∙◌, subst, arith, true}
 use Rattle.std.proofs.lemmas.List.{length-map, map_push}
 use Rattle.paths.specs.Paths.{names}
 use Rattle.rows.specs.declared.row.Row.{Row as Stored}
 use Rattle.rows.specs.Rows.{row_of, rows_of}
 use Rattle.trees.specs.declared.entry.Entry.{Entry}
-use Rattle.trees.specs.Entries.{Row}
+use Rattle.trees.specs.Entries.{Row, is_tree}
 use Rattle.words.specs.declared.fault.Cause.{Cause}
-use Rattle.words.specs.declared.fault.Cause.TheVariants.{Order, Parent, TooMany}
 use Rattle.paths.specs.Steps.{and_then}
 use Rattle.mtree.specs.Lines.{line_of}
 use Rattle.manifests.specs.declared.reader.Reader.{Reader}
-use Rattle.manifests.specs.Lasts.{Built, last_row, rises_last, by_last}
 use Rattle.manifests.specs.Manifests.{placed, row_of_line}
 use Rattle.manifests.specs.Readers.{so_far, ended, row_of_ended}
 use Rattle.manifests.proofs.BuiltRows.{line-built}
-use Rattle.manifests.proofs.PlacedRow.{placed_by}
 use Rattle.manifests.proofs.ReadLines.{row_line, placed-room}
-
--- whether a row may follow, by the last row
-pub placed_in : (self : Reader) (row : Stored Entry) (o : Option Row) → o ≡ last_row (so_far self) → placed self.limit (so_far self) (names row.path) row.value ≡ cond (rises_last o (names row.path)) (cond (by_last o (names row.path) row.value) (cond (ltb (length (so_far self)) self.limit) (Ok (row_of row)) (Err TooMany)) (Err Parent)) (Err Order)
-placed_in self row o is = placed_by self.limit (so_far self) (names row.path) row.value o is self.built
 
 -- one row more, written behind the rows so far
 pub record Taken (self : Reader) (line : List ℕ) (row : Stored Entry) : Type 0 where
   pub line_says : row_of_ended self.limit (so_far self) line ≡ Ok (row_of row)
   pub room : length self.rows.items < self.limit
   pub stored : rows_of (self.rows.items ++ row ∷ []) ≡ so_far self ++ row_of row ∷ []
-  pub built : Built (rows_of (self.rows.items ++ row ∷ []))
+  pub built : is_tree (rows_of (self.rows.items ++ row ∷ [])) ≡ true
 
 module _ (self : Reader) (line text : List ℕ) (cut : ended line ≡ Ok text) where
   abbrev row_place : Stored Entry → Result Row Cause
@@ -40,7 +33,7 @@ module _ (self : Reader) (line text : List ℕ) (cut : ended line ≡ Ok text) w
   bad_line c e = says ∙ ap (λ x. and_then x (λ r. placed self.limit (so_far self) r.0 r.1)) e
 
   module _ (row : Stored Entry) (read : line_of text ≡ Ok (row_of row)) where
-    pub placed_line : row_of_ended self.limit (so_far self) line ≡ row_place row
+    placed_line : row_of_ended self.limit (so_far self) line ≡ row_place row
     placed_line = says ∙ ap (λ x. and_then x (λ r. placed self.limit (so_far self) r.0 r.1)) read
 
     pub row_taken : row_place row ≡ Ok (row_of row) → Taken self line row
@@ -54,5 +47,5 @@ module _ (self : Reader) (line text : List ℕ) (cut : ended line ≡ Ok text) w
           line_says = line_says;
           room = omega arith;
           stored = stored;
-          built = subst Built (sym stored) (line-built self.limit (so_far self) text (row_of row) self.built row_says);
+          built = subst (λ z. is_tree z ≡ true) (sym stored) (line-built self.limit (so_far self) text (row_of row) self.built row_says);
         }

@@ -1,7 +1,6 @@
 -- The laws of manifests, as statements. Assumes nothing.
-use Rattle.std.specs.Prelude.{◌≡◌, ℕ, ◌≤◌, true, ◌&&◌, List, length, Ok}
-use Rattle.rows.specs.Maps.{ascending}
-use Rattle.trees.specs.Entries.{Row, Entries, closed}
+use Rattle.std.specs.Prelude.{◌≡◌, ℕ, ◌≤◌, true, List, length, Ok}
+use Rattle.trees.specs.Entries.{Row, Entries, is_tree}
 use Rattle.listing.specs.Lines.{listing}
 use Rattle.manifests.specs.Manifests.{indexed}
 
@@ -16,4 +15,4 @@ IndexThenLoad = (given : ℕ) (text : List ℕ) (rows : List Row) → indexed gi
 
 -- what a text is accepted to say is a tree
 abbrev pub IndexMakesTree : Type 0
-IndexMakesTree = (given : ℕ) (text : List ℕ) (rows : List Row) → indexed given text ≡ Ok rows → (ascending rows && closed rows rows) ≡ true
+IndexMakesTree = (given : ℕ) (text : List ℕ) (rows : List Row) → indexed given text ≡ Ok rows → is_tree rows ≡ true

@@ -8,9 +8,10 @@ use Rattle.trees.specs.Entries.{Row, is_dir}
 use Rattle.words.specs.declared.fault.Cause.{Cause}
 use Rattle.words.specs.declared.fault.Cause.TheVariants.{Header, Word, Order, Parent, TooMany}
 use Rattle.manifests.specs.declared.fault.ManifestFault.{ManifestFault}
-use Rattle.paths.specs.Steps.{and_then}
+use Rattle.paths.specs.Steps.{and_then, map_err}
 use Rattle.words.specs.Words.{path_of}
 use Rattle.mtree.specs.Keywords.{entry_of}
+use Rattle.listing.specs.Lines.{header}
 
 -- the root is a directory, and any other path stands under an earlier directory
 abbrev pub under_dir : List Row → Names → Entry → Bool
@@ -27,13 +28,9 @@ abbrev pub row_of_line : ℕ → List Row → List ℕ → Result Row Cause
 row_of_line limit rows l =
     and_then (path_of (front 32 l)) (λ p. and_then (entry_of (later 32 l)) (λ e. placed limit rows p e))
 
+-- a cause, at the position of the line's first byte
 abbrev pub fault_at : ℕ → Cause → ManifestFault
 fault_at at c = record { at = at; cause = c }
-
--- a refusal of a line, with the position of the line's first byte
-abbrev pub positioned : {A : Type 0} → ℕ → Result A Cause → Result A ManifestFault
-positioned at (Ok a) = Ok a
-positioned at (Err c) = Err (fault_at at c)
 
 -- the rows so far, and those of the lines from position `at` on; what follows the last newline is
 -- no line, and has to be empty
@@ -41,11 +38,7 @@ unfoldable pub rows_from : ℕ → ℕ → List Row → List (List ℕ) → Resu
 rows_from limit at rows [] = Ok rows
 rows_from limit at rows (l ∷ []) = cond (length l == 0) (Ok rows) (Err (fault_at at Word))
 rows_from limit at rows (l ∷ m ∷ ls) =
-    and_then (positioned at (row_of_line limit rows l)) (λ r. rows_from limit (at + (length l + 1)) (rows ++ r ∷ []) (m ∷ ls))
-
--- `#mtree` and a newline
-abbrev pub header : List ℕ
-header = 35 ∷ 109 ∷ 116 ∷ 114 ∷ 101 ∷ 101 ∷ 10 ∷ []
+    and_then (map_err (fault_at at) (row_of_line limit rows l)) (λ r. rows_from limit (at + (length l + 1)) (rows ++ r ∷ []) (m ∷ ls))
 
 -- the rows of a text, of which there may be `limit`
 abbrev pub rows_in : ℕ → List ℕ → Result (List Row) ManifestFault

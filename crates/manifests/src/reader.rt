@@ -1,10 +1,10 @@
 // The rows of a manifest's text, line by line.
-ghost use Rattle.std.specs.Prelude.{◌≡◌, ◌≤◌, ◌&&◌, [], ◌∷◌, ◌++◌, min, length, Ok, Err, IfOk, MatchResult, nat_le};
+ghost use Rattle.std.specs.Prelude.{◌≡◌, ◌≤◌, ◌&&◌, [], ◌∷◌, ◌++◌, min, length, Ok, Err, IfOk, MatchResult, nat_le, true};
 ghost use Rattle.paths.specs.Names.{begins};
 ghost use Rattle.rows.specs.Rows.{row_of, rows_of};
-ghost use Rattle.trees.specs.Entries.{Row as Meant};
-ghost use Rattle.manifests.specs.Lasts.{Built};
-ghost use Rattle.manifests.specs.Manifests.{header, indexed};
+ghost use Rattle.trees.specs.Entries.{Row as Meant, is_tree};
+ghost use Rattle.listing.specs.Lines.{header};
+ghost use Rattle.manifests.specs.Manifests.{indexed};
 
 use crate::fault::ManifestFault;
 use crate::index::blank_row;
@@ -37,7 +37,7 @@ pub struct Reader {
     limit: usize,
     ghost room: { limit ≤ 1024 },
     ghost fits: { length rows.items ≤ limit },
-    ghost built: { Built (rows_of rows.items) },
+    ghost built: { is_tree (rows_of rows.items) ≡ true },
 }
 
 impl Reader {

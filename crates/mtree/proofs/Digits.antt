@@ -19,7 +19,7 @@ digit-fits n base d i h b l =
     let high : suc n * 16 ≤ 16 ^ i * 16 = mul-le-mul_right 16 h in
     omega arith
 
-digit-below : (base b d : ℕ) → digit_value base b ≡ Some d → d < base
+pub digit-below : (base b d : ℕ) → digit_value base b ≡ Some d → d < base
 digit-below base b d e = grind (arith, nat_tests)
 
 -- up to sixteen digits write a number of 64 bits

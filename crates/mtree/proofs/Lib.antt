@@ -1,3 +1,6 @@
 pub mod Digits
 pub mod Lexing
 pub mod Reading
+pub mod Ranged
+pub mod Numerals
+pub mod Sizes

@@ -1,5 +1,5 @@
 use Rattle.std.proofs.Common.{◌≡◌, List, length, true, false, not, Some, None, Ok, Option, Result, sym, refl, ap, ◌∙◌, MatchOption, MatchResult}
-use Rattle.std.proofs.lemmas.Bool.{both_ways, and_parts, false≢true}
+use Rattle.std.proofs.lemmas.Bool.{both_ways, false≢true}
 use Rattle.std.specs.Option.{ok_or}
 use Rattle.rows.specs.declared.row.Row.{Row as Stored}
 use Rattle.manifests.specs.declared.fault.ManifestFault.{ManifestFault}
@@ -8,7 +8,8 @@ use Rattle.rows.specs.Maps.{ascending}
 use Rattle.rows.specs.Rows.{rows_of}
 use Rattle.rows.specs.Sorts.{kept}
 use Rattle.trees.specs.declared.entry.Entry.{Entry}
-use Rattle.trees.specs.Entries.{Row, closed}
+use Rattle.trees.specs.Entries.{Row}
+use Rattle.trees.proofs.Closed.{tree_parts}
 use Rattle.words.specs.declared.fault.Cause.TheVariants.{OtherRows}
 use Rattle.manifests.specs.Manifests.{indexed, fault_at}
 use Rattle.manifests.proofs.BuiltRows.{indexed-built}
@@ -33,4 +34,4 @@ returns c =
     let same = rows_ne c.rows.result.now given c.ne.result c.ne.ensures in
     let said = c.in_ok-reader.ensures.rows ∙ ap Ok (sym c.rows.ensures.rows ∙ same.0 (ap not c.if-ne.false)) in
     let built = indexed-built (length given) c.args.text.now (rows_of given) said in
-    rw c.ok_or.ensures.value (taken given c.new.result (fault_at 0 OtherRows) (indexed (length given) c.args.text.now) said (and_parts (ascending (rows_of given)) (closed (rows_of given) (rows_of given)) built).0 c.new.ensures)
+    rw c.ok_or.ensures.value (taken given c.new.result (fault_at 0 OtherRows) (indexed (length given) c.args.text.now) said (tree_parts (rows_of given) built).0 c.new.ensures)

@@ -1,13 +1,11 @@
 -- Sizes read back. Assumes nothing.
-use Rattle.std.proofs.Common.{◌≡◌, ℕ, ◌+◌, ◌/◌, ◌%◌, ◌^◌, ◌<◌, ◌≤◌, true, false, not, ◌&&◌, ◌||◌, eqb, leb, List, [], ◌∷◌, ◌++◌, length, get_or, Some, None, decimal, refl, ap, ◌∙◌, ⊎_elim, arith}
+use Rattle.std.proofs.Common.{◌≡◌, ℕ, ◌+◌, ◌/◌, ◌%◌, ◌^◌, ◌<◌, ◌≤◌, true, false, not, ◌&&◌, eqb, leb, List, [], ◌∷◌, ◌++◌, length, get_or, Some, None, decimal, refl, ap, ◌∙◌, ⊎_elim, arith}
 use Rattle.std.proofs.lemmas.Fmt.{decimal_digit, decimal_by_steps, decimal_nonempty, length-decimal-le, first_decimal}
 use Rattle.std.proofs.lemmas.Bool.{and_from, or_left, or_right, not_from_false, cond-true, le-leb, eq-eqb, ne_eqb, cases_eq}
 use Rattle.paths.specs.Names.{begins}
 use Rattle.paths.specs.Steps.{and_then_some}
-use Rattle.mtree.specs.Numbers.{numeral_from, numeral, at_most, size_of}
-use Rattle.trees.proofs.Fine.{all_append}
-use Rattle.manifests.proofs.Numerals.{low_digit, numeral_push}
-use Rattle.manifests.proofs.Splits.{Above}
+use Rattle.mtree.specs.Numbers.{numeral_from, numeral, at_most, unpadded, size_of}
+use Rattle.mtree.proofs.Numerals.{low_digit, numeral_push}
 
 none : numeral 10 [] ≡ Some 0
 unfolding numeral_from
@@ -23,29 +21,19 @@ decimal_back = decimal_by_steps (λ m ds. numeral 10 ds ≡ Some m) one more whe
       let low : m % 10 < 10 = omega arith in
       numeral_push 10 0 ds (48 + m % 10) (m / 10) (m % 10) e (low_digit 10 (m % 10) low low) ∙ ap Some (omega arith)
 
-pub decimal-seen : (n : ℕ) → n < 2 ^ 64 → Above 32 (decimal n)
-decimal-seen = decimal_by_steps (λ m ds. Above 32 ds) one more where
-  one : (m : ℕ) → m < 10 → Above 32 ((48 + m) ∷ [])
-  one m h = (omega arith, tt)
-
-  more : (m : ℕ) (ds : List ℕ) → 10 ≤ m → Above 32 ds → Above 32 (ds ++ (48 + m % 10) ∷ [])
-  more m ds h a =
-      let last : 32 < 48 + m % 10 = omega arith in
-      all_append (λ b. 32 < b) ds ((48 + m % 10) ∷ []) a (last, tt)
-
 -- ---- no zero stands before another digit
 
 unled : (v : List ℕ) → 48 < get_or v 0 0 → begins (48 ∷ []) v ≡ false
 unled [] h = refl
 unled (y ∷ ys) h = ap (λ t. t && true) (ne_eqb y 48 (λ e. omega arith))
 
-tidy : (n : ℕ) → n < 2 ^ 64 → (not (begins (48 ∷ []) (decimal n)) || eqb (length (decimal n)) 1) ≡ true
+pub tidy : (n : ℕ) → n < 2 ^ 64 → unpadded (decimal n) ≡ true
 tidy n small = ⊎_elim zero_alone led (cases_eq n 0) where
-  zero_alone : n ≡ 0 → (not (begins (48 ∷ []) (decimal n)) || eqb (length (decimal n)) 1) ≡ true
+  zero_alone : n ≡ 0 → unpadded (decimal n) ≡ true
   zero_alone e =
       or_right (not (begins (48 ∷ []) (decimal n))) (eqb (length (decimal n)) 1) (eq-eqb (length (decimal n)) 1 (ap length (decimal_digit n (omega arith))))
 
-  led : (n ≡ 0 → ⊥) → (not (begins (48 ∷ []) (decimal n)) || eqb (length (decimal n)) 1) ≡ true
+  led : (n ≡ 0 → ⊥) → unpadded (decimal n) ≡ true
   led nonzero =
       let some : 0 < n = omega arith in
       or_left (not (begins (48 ∷ []) (decimal n))) (eqb (length (decimal n)) 1) (not_from_false (begins (48 ∷ []) (decimal n)) (unled (decimal n) (first_decimal n some small)))
@@ -54,7 +42,7 @@ module _ (n : ℕ) (top : n ≤ 1099511627776) where
   pub size_small : n < 2 ^ 64
   size_small = omega arith
 
-  shaped : (leb 1 (length (decimal n)) && (leb (length (decimal n)) 13 && (not (begins (48 ∷ []) (decimal n)) || eqb (length (decimal n)) 1))) ≡ true
+  shaped : (leb 1 (length (decimal n)) && (leb (length (decimal n)) 13 && unpadded (decimal n))) ≡ true
   shaped =
       let some = decimal_nonempty n size_small in
       let short = length-decimal-le 13 n (omega arith) (omega arith) size_small in

@@ -1,14 +1,12 @@
 -- Digits read back as their number. Assumes nothing.
-use Rattle.std.proofs.Common.{◌≡◌, ℕ, zero, suc, ◌+◌, ◌-◌, ◌*◌, ◌/◌, ◌%◌, ◌^◌, ◌<◌, ◌≤◌, Bool, true, false, cond, ◌&&◌, ltb, leb, List, [], ◌∷◌, ◌++◌, length, is_some, Some, None, Option, sym, refl, ap, ◌∙◌, subst, mul_comm, add-one, arith}
+use Rattle.std.proofs.Common.{◌≡◌, ℕ, zero, suc, ◌+◌, ◌-◌, ◌*◌, ◌/◌, ◌%◌, ◌^◌, ◌<◌, ◌≤◌, Bool, true, false, cond, ◌&&◌, eqb, ltb, leb, List, [], ◌∷◌, ◌++◌, length, is_some, Some, None, Option, sym, refl, ap, ◌∙◌, subst, mul_comm, arith}
 use native.Mathlib.Nat.{pow-succ', pow-zero}
 use Rattle.std.proofs.lemmas.Nat.{div-add-mod', div_below, mod_below}
-use Rattle.std.proofs.lemmas.List.{length_push}
-use Rattle.std.proofs.lemmas.Bool.{true≢false, and_from, and_right, cond-true, cond-false, le-leb, lt-leb, lt-ltb, ltb-true, ltb-false}
-use Rattle.std.specs.List.{AllByRecursion as All}
+use Rattle.std.proofs.lemmas.Bool.{true≢false, and_from, and_right, cond-true, cond-false, le-leb, lt-leb, eq-eqb, lt-ltb, ltb-true, ltb-false}
 use Rattle.listing.specs.Lines.{digit, digits}
+use Rattle.listing.proofs.Texts.{length-digits}
 use Rattle.paths.specs.Steps.{and_then_some}
-use Rattle.mtree.specs.Numbers.{below, digit_value, numeral_from, numeral}
-use Rattle.trees.proofs.Fine.{all_append}
+use Rattle.mtree.specs.Numbers.{below, digit_value, numeral_from, numeral, mode_of, content_of}
 
 -- ---- one digit
 
@@ -31,12 +29,6 @@ digit_back base d h top = go (ltb d 10) refl where
   go : (t : Bool) → ltb d 10 ≡ t → digit_value base (cond t (48 + d) (87 + d)) ≡ Some d
   go true e = low_digit base d h (ltb-true d 10 e)
   go false e = high_digit base d h (ltb-false d 10 e) (omega arith)
-
-digit-seen : (d : ℕ) → 32 < digit d
-digit-seen d = go (ltb d 10) where
-  go : (t : Bool) → 32 < cond t (48 + d) (87 + d)
-  go true = omega arith
-  go false = omega arith
 
 -- ---- one digit more
 
@@ -61,15 +53,14 @@ digits_back base (suc k) n some top h =
     let last = digit_back base (n % base) (mod_below n base some) top in
     numeral_push base 0 (digits base k (n / base)) (digit (n % base)) (n / base) (n % base) front last ∙ ap Some (div-add-mod' n base)
 
-pub length_digits : (base k n : ℕ) → length (digits base k n) ≡ k
-unfolding digits
-length_digits base zero n = refl
-length_digits base (suc k) n =
-    length_push (digits base k (n / base)) (digit (n % base)) ∙ ap (λ m. m + 1) (length_digits base k (n / base)) ∙ add-one k
+-- ---- the numbers of a file
 
--- a digit is neither a newline nor a space
-pub digits-seen : (base k n : ℕ) → All (λ b. 32 < b) (digits base k n)
-unfolding digits
-digits-seen base zero n = tt
-digits-seen base (suc k) n =
-    all_append (λ b. 32 < b) (digits base k (n / base)) (digit (n % base) ∷ []) (digits-seen base k (n / base)) (digit-seen (n % base), tt)
+pub mode_back : (m : ℕ) → m ≤ 4095 → mode_of (digits 8 4 m) ≡ Some m
+mode_back m h =
+    cond-true (eqb (length (digits 8 4 m)) 4) (numeral 8 (digits 8 4 m)) None (eq-eqb (length (digits 8 4 m)) 4 (length-digits 8 4 m))
+    ∙ digits_back 8 4 m (omega arith) (omega arith) (omega arith)
+
+pub content_back : (n : ℕ) → n < 18446744073709551616 → content_of (digits 16 16 n) ≡ Some n
+content_back n h =
+    cond-true (eqb (length (digits 16 16 n)) 16) (numeral 16 (digits 16 16 n)) None (eq-eqb (length (digits 16 16 n)) 16 (length-digits 16 16 n))
+    ∙ digits_back 16 16 n (omega arith) (omega arith) (omega arith)
