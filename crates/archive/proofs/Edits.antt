@@ -1,11 +1,11 @@
 -- An edit of a layer over a tree, told by the plain map. Assumes nothing.
-use Rattle.std.proofs.Common.{◌≡◌, ℕ, ◌-◌, true, ◌&&◌, List, length, Some, None, Ok, Err, Option, Result, sym, refl, ap, ◌∙◌}
+use Rattle.std.proofs.Common.{◌≡◌, ℕ, ◌-◌, true, List, length, Some, None, Ok, Err, Option, Result, sym, refl, ap, ◌∙◌}
 use Rattle.paths.specs.declared.PathFault.{PathFault}
 use Rattle.paths.specs.Names.{judge}
-use Rattle.rows.specs.Maps.{Names, ascending}
+use Rattle.rows.specs.Maps.{Names}
 use Rattle.rows.specs.Builds.{keys}
 use Rattle.trees.specs.declared.fault.Fault.{Fault}
-use Rattle.trees.specs.Entries.{Entries, Row, closed}
+use Rattle.trees.specs.Entries.{Entries, Row, is_tree}
 use Rattle.edits.specs.declared.action.Action.{Action}
 use Rattle.edits.specs.Edits.{refusal, need_of, answered, unless_refused}
 use Rattle.edits.proofs.Outcomes.{good-refusal}
@@ -36,7 +36,7 @@ module _ (m : List MarkRow) (e : List Row) where
       ∙ ap (λ f. refusal (merged m e) (room_in (plain_of m e)) f s a) (same_needs m)
 
   -- the plain map of the marks after an edit, granted or not
-  plain_after : layered m ≡ true → (ascending e && closed e e) ≡ true → (s : List ℕ) (a : Action) → plain_of (marks_after m e s a) e ≡ after (plain_of m e) (edit s a)
+  plain_after : layered m ≡ true → is_tree e ≡ true → (s : List ℕ) (a : Action) → plain_of (marks_after m e s a) e ≡ after (plain_of m e) (edit s a)
   plain_after lm le s a =
       go (refusal_over m e s a) (judge s) refl refl
       ∙ ap (λ o. unless_refused o (plain_of m e) (granted_in (plain_of m e) a (judge s))) (same_refusal s a) where

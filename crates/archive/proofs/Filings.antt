@@ -32,11 +32,8 @@ module _ {T : Type 0} (e : T → Entries) (tree : T) (opening : Session T) (none
       ∙ h
       ∙ ap (λ p. afterwards p (map request_of first)) (plain_open e opening tree none on)
 
-  pub replies_first : (before replies : List Reply) → before ≡ [] → map response_of replies ≡ map response_of before ++ answers (plain_in e opening) (map request_of first) → map response_of replies ≡ answers (opened (e tree).rows) (map request_of first)
-  replies_first before replies b h =
-      h
-      ∙ ap (λ z. map response_of z ++ answers (plain_in e opening) (map request_of first)) b
-      ∙ ap (λ p. answers p (map request_of first)) (plain_open e opening tree none on)
+  pub replies_first : (before replies : List Reply) → map response_of replies ≡ map response_of before ++ answers (plain_in e opening) (map request_of first) → map response_of replies ≡ map response_of before ++ answers (opened (e tree).rows) (map request_of first)
+  replies_first before replies h = h ∙ ap (λ p. map response_of before ++ answers p (map request_of first)) (plain_open e opening tree none on)
 
 -- a session with those marks over a tree
 pub plain_laid : {T : Type 0} (e : T → Entries) (tree : T) (s : Session T) (m : List MarkRow) → marks_in s ≡ m → s.lower ≡ tree → plain_in e s ≡ plain_of m (e tree).rows

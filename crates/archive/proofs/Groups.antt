@@ -6,10 +6,9 @@ use Rattle.paths.specs.Steps.{and_then}
 use Rattle.paths.proofs.Granted.{then_ok}
 use Rattle.trees.specs.declared.fault.Fault.{Fault}
 use Rattle.trees.specs.declared.fault.Fault.TheVariants.{NoRoom}
-use Rattle.trees.specs.Entries.{Row}
+use Rattle.trees.specs.Entries.{Row, is_tree}
 use Rattle.trees.proofs.Closed.{tree_parts}
 use Rattle.marks.specs.Marks.{MarkRow, merged, layered}
-use Rattle.marks.specs.Laws.{treed}
 use Rattle.marks.specs.Squash.{squashed}
 use Rattle.marks.proofs.Merges.{layer_parts, merged_tree}
 use Rattle.marks.proofs.Squashes.{layered-squashed, merged-squashed, squashed-squashed, squashed-empty, empty-squashed}
@@ -108,7 +107,7 @@ squash_got u l m h = got (ltb 192 (length (squashed u l))) h where
   got true k = cc
   got false k = cc
 
-layered-all : (ms : List (List MarkRow)) → Layers ms → layered (all_squashed ms) ≡ true
+pub layered-all : (ms : List (List MarkRow)) → Layers ms → layered (all_squashed ms) ≡ true
 layered-all [] a = refl
 layered-all (l ∷ ms) a = layered-squashed (all_squashed ms) l (layered-all ms a.1) a.0
 
@@ -149,7 +148,7 @@ grouped_all (k ∷ ks) ms m a h =
     grouped_all ks step.0 m rest.1 step.2 ∙ rest.0
 
 -- laid on a tree, the squash of all is all of them laid one by one
-pub all_laid : (ms : List (List MarkRow)) (e : List Row) → Layers ms → treed e ≡ true → merged (all_squashed ms) e ≡ laid_all ms e
+pub all_laid : (ms : List (List MarkRow)) (e : List Row) → Layers ms → is_tree e ≡ true → merged (all_squashed ms) e ≡ laid_all ms e
 all_laid [] e a t = merged_none e (tree_parts e t).0
 all_laid (l ∷ ms) e a t = merged-squashed (all_squashed ms) l e (tree_parts e t).0 ∙ all_laid ms (merged l e) a.1 (merged_tree l e a.0 t)
 
@@ -172,6 +171,6 @@ module _ (ks : List ℕ) (ls : List Layer) where
   same_file (Ok l) h = λ other m g. ap encoded (same_marks (Ok l) h other m g)
   same_file (Err f) h = tt
 
-  pub same_laid : (r : Result Layer Fault) → Grouped r → IfOk r (λ l. (e : List Row) → treed e ≡ true → merged (marks_of l) e ≡ laid_all (map marks_of ls) e)
+  pub same_laid : (r : Result Layer Fault) → Grouped r → IfOk r (λ l. (e : List Row) → is_tree e ≡ true → merged (marks_of l) e ≡ laid_all (map marks_of ls) e)
   same_laid (Ok l) h = λ e t. ap (λ z. merged z e) (got_all l h) ∙ all_laid (map marks_of ls) e (all_layers ls) t
   same_laid (Err f) h = tt

@@ -1,5 +1,5 @@
 -- A list of calls, of which some have been made. Assumes nothing.
-use Rattle.std.proofs.Common.{◌≡◌, ℕ, ◌+◌, ◌<◌, ◌≤◌, List, [], ◌∷◌, ◌++◌, map, length, sym, refl, ap, ◌∙◌, append_assoc, arith}
+use Rattle.std.proofs.Common.{◌≡◌, ℕ, ◌+◌, ◌≤◌, List, [], ◌∷◌, ◌++◌, map, length, sym, refl, ap, ◌∙◌, append_assoc, arith}
 use Rattle.std.proofs.lemmas.List.{map_push, append-nil}
 use Rattle.marks.specs.Plain.{Plain}
 use Rattle.archive.specs.declared.call.Call.{Call}
@@ -32,17 +32,7 @@ unfolding afterwards
 afterwards_none s = refl
 
 module _ (s : Plain) (before : List Reply) (spare : ℕ) (all : List Call) where
-  pub none_made : (left : List Call) (replies : List Reply) (len cap : ℕ) → left ≡ all → replies ≡ before → len + length all + spare ≤ cap → Replaying s (map response_of before) spare all left replies len cap s
-  none_made left replies len cap l r c = record {
-    replied = ap (λ z. map response_of z ++ answers s (map request_of left)) r ∙ ap (λ z. map response_of before ++ answers s (map request_of z)) l;
-    reached = ap (λ z. afterwards s (map request_of z)) l;
-    room = omega (arith, c, ap length l);
-  }
-
   module _ (left : List Call) (replies : List Reply) (len cap : ℕ) (now : Plain) (f : Replaying s (map response_of before) spare all left replies len cap now) where
-    pub room_left : (call : Call) (rest : List Call) → left ≡ call ∷ rest → len < cap
-    room_left call rest l = omega (arith, f.room, ap length l)
-
     pub one_made : (call : Call) (rest : List Call) (reply : Reply) (replies' : List Reply) (len' cap' : ℕ) (now' : Plain) → left ≡ call ∷ rest → response_of reply ≡ answer now (request_of call) → now' ≡ after now (request_of call) → replies' ≡ replies ++ reply ∷ [] → len' ≡ len + 1 → cap ≤ cap' → Replaying s (map response_of before) spare all rest replies' len' cap' now'
     one_made call rest reply replies' len' cap' now' l a n r k c = record {
       replied =

@@ -1,12 +1,12 @@
 -- What a plain map answers to a call, and what it is afterwards. Assumes nothing.
-use Rattle.std.specs.Prelude.{ℕ, ◌-◌, cond, List, ◌++◌, length, drop, Ok, Err, Option, Result, nat_lt}
+use Rattle.std.specs.Prelude.{ℕ, ◌-◌, List, length, Ok, Err, Option, Result}
 use Rattle.paths.specs.declared.PathFault.{PathFault}
 use Rattle.paths.specs.Names.{judge}
 use Rattle.rows.specs.Maps.{Names}
 use Rattle.trees.specs.declared.fault.Fault.{Fault}
-use Rattle.trees.specs.declared.fault.Fault.TheVariants.{ShortBuffer}
-use Rattle.trees.specs.Entries.{Entries, Row}
+use Rattle.trees.specs.Entries.{Entries}
 use Rattle.trees.specs.Answers.{look_of, next_of, counted, put_name}
+use Rattle.trees.specs.Buffers.{fitted, put_front}
 use Rattle.listing.specs.Lines.{listing}
 use Rattle.edits.specs.declared.action.Action.{Action}
 use Rattle.edits.specs.Edits.{refusal, need_of, answered, unless_refused}
@@ -21,14 +21,6 @@ plain_in e s = plain_of (marks_in s) (rows_below e s)
 
 -- ---- what is answered
 
--- the length of the listing, if a buffer of n bytes takes it
-abbrev pub list_of : List Row → ℕ → Result ℕ Fault
-list_of rs n = cond (nat_lt n (length (listing rs))) (Err ShortBuffer) (Ok (length (listing rs)))
-
--- the buffer afterwards: the listing, then what was there
-abbrev pub put_list : List Row → List ℕ → List ℕ
-put_list rs b = cond (nat_lt (length b) (length (listing rs))) b (listing rs ++ drop (length (listing rs)) b)
-
 -- how many rows are left: 192 minus the noted paths
 abbrev pub room_in : Plain → ℕ
 room_in s = 192 - length s.noted
@@ -40,7 +32,7 @@ refusal_in s p a = refusal s.own (room_in s) (unnoted s.noted) p a
 abbrev pub answer : Plain → Request → Response
 answer s (look p) = looked (look_of s.own p)
 answer s (next p a b) = named (counted (next_of s.own p a (length b))) (put_name (next_of s.own p a (length b)) b)
-answer s (list b) = listed (list_of s.own (length b)) (put_list s.own b)
+answer s (list b) = listed (fitted (listing s.own) (length b)) (put_front (listing s.own) b)
 answer s room = left (room_in s)
 answer s (need p) = needed (need_of (unnoted s.noted) p)
 answer s (edit p a) = edited (answered (refusal_in s p a))

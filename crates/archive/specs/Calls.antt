@@ -1,7 +1,8 @@
 -- Calls on a session and what they give back, by the bytes in them. Assumes nothing.
-use Rattle.std.specs.Prelude.{ℕ, List, Option, Result, vec_items}
+use Rattle.std.specs.Prelude.{ℕ, cond, List, Ok, Err, Option, Result, vec_items, nat_lt}
 use Rattle.trees.specs.declared.entry.Entry.{Entry}
 use Rattle.trees.specs.declared.fault.Fault.{Fault}
+use Rattle.trees.specs.declared.fault.Fault.TheVariants.{ShortBuffer}
 use Rattle.edits.specs.declared.action.Action.{Action}
 use Rattle.archive.specs.declared.call.Call.{Call}
 use Rattle.archive.specs.declared.call.Call.TheVariants as call
@@ -41,3 +42,7 @@ response_of (reply.Listed r b) = listed r (vec_items b)
 response_of (reply.Room n) = left n
 response_of (reply.Need r) = needed r
 response_of (reply.Edited r) = edited r
+
+-- whether a vector with room for so many replies more takes those to so many calls: it is a buffer that is lent
+abbrev pub room_for : ℕ → ℕ → Result (Unit {0}) Fault
+room_for free calls = cond (nat_lt free calls) (Err ShortBuffer) (Ok tt)

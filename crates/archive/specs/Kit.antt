@@ -1,11 +1,11 @@
 -- A small tree, and what becomes of it in one session: worked examples of the definitions. Assumes nothing.
-use Rattle.std.specs.Prelude.{◌≡◌, ℕ, List, [], ◌∷◌, length, Some, None, Ok, Err}
+use Rattle.std.specs.Prelude.{◌≡◌, ℕ, true, List, [], ◌∷◌, length, Some, None, Ok, Err}
 use Rattle.paths.specs.Names.{join}
 use Rattle.rows.specs.Maps.{Names, at}
 use Rattle.trees.specs.declared.entry.Entry.{Entry}
 use Rattle.trees.specs.declared.entry.Entry.TheVariants as entry
 use Rattle.trees.specs.declared.fault.Fault.TheVariants.{Missing, NotDirectory, NotEmpty}
-use Rattle.trees.specs.Entries.{Row}
+use Rattle.trees.specs.Entries.{Row, is_tree}
 use Rattle.trees.specs.Answers.{look_of}
 use Rattle.edits.specs.declared.action.Action.{Action}
 use Rattle.edits.specs.declared.action.Action.TheVariants.{Put, Mkdir, Remove}
@@ -69,6 +69,8 @@ abbrev pub after_mkdir : List MarkRow
 after_mkdir = next_marks after_trays (etc ∷ trays ∷ []) (Mkdir 488)
 
 pub record Worked : Type 0 where
+  -- the rows are those of a tree
+  pub tree : is_tree kit ≡ true
   pub look_file : look_of kit (join (etc ∷ coin ∷ [])) ≡ Ok (file 420 12 161)
   pub look_under_file : look_of kit (join (etc ∷ coin ∷ x ∷ [])) ≡ Err (NotDirectory 3)
   pub look_missing : look_of kit (join (etc ∷ note ∷ x ∷ [])) ≡ Err (Missing 2)

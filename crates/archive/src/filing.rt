@@ -1,19 +1,22 @@
 // Filing: the layer of a session is written, and what was written is laid on a tree.
-ghost use Rattle.std.specs.Prelude.{◌≡◌, ◌++◌, length, map, Ok, Err, IfOk, OnOk, OnErr, MatchResult};
+ghost use Rattle.std.specs.Prelude.{◌≡◌, ◌+◌, ◌-◌, ◌++◌, length, take, map, Ok, Err, IfOk, OnOk, OnErr, MatchResult};
+ghost use Rattle.std.specs.Vec.{vec_len, vec_capacity};
+ghost use Rattle.trees.specs.Buffers.{fitted, put_front};
+ghost use Rattle.layer_files.specs.Files.{encoded};
+ghost use Rattle.layer_files.specs.Reads.{decoded};
 ghost use Rattle.sessions.specs.Sessions.{marks_in};
-ghost use Rattle.archive.specs.Calls.{request_of, response_of};
+ghost use Rattle.archive.specs.Calls.{request_of, response_of, room_for};
 ghost use Rattle.archive.specs.Answers.{plain_in};
 ghost use Rattle.archive.specs.Runs.{answers, afterwards, opened};
-ghost use Rattle.archive.specs.Filings.{write_of, put_file, told_in, Filing};
+ghost use Rattle.archive.specs.Filings.{told_in, Filing};
 
 use crate::call::Call;
-use crate::replay::make;
+use crate::replay::{check_room, make};
 use crate::reply::Reply;
 use layer_files::read::read;
 use layer_files::write::write;
 use layers::layer::Layer;
 use sessions::session::Session;
-use std::alloc::{AllocError, Global};
 use trees::fault::Fault;
 use trees::tree::Tree;
 
@@ -24,8 +27,9 @@ pub fn file<T: Drop, U: Drop>(
     buffer: &mut [u8],
     tree: U,
 ) -> Result<(usize, Session<U>), Fault>
-    ensures answer { MatchResult result (λ r. write_of (marks_in session) (length buffer.old) ≡ Ok r.0) (λ f. write_of (marks_in session) (length buffer.old) ≡ Err f) }
-    ensures after { buffer.new ≡ put_file (marks_in session) buffer.old }
+    ensures answer { MatchResult result (λ r. fitted (encoded (marks_in session)) (length buffer.old) ≡ Ok r.0) (λ f. fitted (encoded (marks_in session)) (length buffer.old) ≡ Err f) }
+    ensures after { buffer.new ≡ put_front (encoded (marks_in session)) buffer.old }
+    ensures reads_back { IfOk result (λ r. decoded (take r.0 buffer.new) ≡ Ok (marks_in session)) }
     ensures marks { IfOk result (λ r. marks_in r.1 ≡ marks_in session) }
     ensures lower { IfOk result (λ r. r.1.lower ≡ tree) }
 {
@@ -36,45 +40,33 @@ pub fn file<T: Drop, U: Drop>(
     Ok((len, Session::lay(filed, tree)))
 }
 
-// The replies to all calls that were made, and the length of the file with the session that stands on it, or why it was not
-// written.
-#[derive(Drop)]
-pub struct Refiled<T> {
-    pub replies: Vec<Reply>,
-    pub filed: Result<(usize, Session<T>), Fault>,
-}
+// The length of the file with the session that stands on it, or why it was not written.
+pub type Filed<T> = Result<(usize, Session<T>), Fault>;
 
 // Opens a session over a tree and makes the first calls, files its layer onto another tree and makes the second calls there.
-// The memory for all replies is taken first, so want of it leaves the buffer as it was.
+// A vector without room for all replies is refused like any short buffer, before the first call.
 pub fn refile<T: Tree + Drop, U: Tree + Drop>(
-    heap: Global,
     tree: T,
     first: Vec<Call>,
     buffer: &mut [u8],
     other: U,
     second: Vec<Call>,
-) -> Result<Refiled<U>, AllocError>
-    ensures exact { IfOk result (λ r. Filing (T.Tree.entries tree).rows (U.Tree.entries other).rows (map request_of first.items) (map request_of second.items) (map response_of r.replies.items) (told_in U.Tree.entries r.filed) buffer.old buffer.new) }
-    ensures lower { IfOk result (λ r. IfOk r.filed (λ f. f.1.lower ≡ other)) }
-    ensures filing { IfOk result (λ r. OnOk r.filed ((U.Tree.entries other).rows ≡ (T.Tree.entries tree).rows → map response_of r.replies.items ≡ answers (opened (T.Tree.entries tree).rows) (map request_of (first.items ++ second.items)))) }
-    ensures after { IfOk result (λ r. IfOk r.filed (λ f. (U.Tree.entries other).rows ≡ (T.Tree.entries tree).rows → plain_in U.Tree.entries f.1 ≡ afterwards (opened (T.Tree.entries tree).rows) (map request_of (first.items ++ second.items)))) }
-    ensures failed { OnErr result (buffer.new ≡ buffer.old) }
+    replies: &mut Vec<Reply>,
+) -> Result<Filed<U>, Fault>
+    ensures answer { MatchResult result (λ r. room_for (vec_capacity replies.old - vec_len replies.old) (vec_len first + vec_len second) ≡ Ok tt) (λ f. room_for (vec_capacity replies.old - vec_len replies.old) (vec_len first + vec_len second) ≡ Err f) }
+    ensures exact { IfOk result (λ r. Filing (T.Tree.entries tree).rows (U.Tree.entries other).rows (map request_of first.items) (map request_of second.items) (map response_of replies.old.items) (map response_of replies.new.items) (told_in U.Tree.entries r) buffer.old buffer.new) }
+    ensures lower { IfOk result (λ r. IfOk r (λ f. f.1.lower ≡ other)) }
+    ensures filing { IfOk result (λ r. OnOk r ((U.Tree.entries other).rows ≡ (T.Tree.entries tree).rows → map response_of replies.new.items ≡ map response_of replies.old.items ++ answers (opened (T.Tree.entries tree).rows) (map request_of (first.items ++ second.items)))) }
+    ensures after { IfOk result (λ r. IfOk r (λ f. (U.Tree.entries other).rows ≡ (T.Tree.entries tree).rows → plain_in U.Tree.entries f.1 ≡ afterwards (opened (T.Tree.entries tree).rows) (map request_of (first.items ++ second.items)))) }
+    ensures refused { OnErr result ((replies.new ≡ replies.old) × (buffer.new ≡ buffer.old)) }
 {
-    let mut replies = Vec::with_capacity(heap, first.len() + second.len())?;
+    check_room(replies, first.len() + second.len())?;
     let mut session = Session::open(tree);
-    make(&mut session, first, &mut replies);
+    make(&mut session, first, replies);
     let (len, mut session) = match file(session, buffer, other) {
         Ok(filed) => filed,
-        Err(fault) => {
-            return Ok(Refiled {
-                replies,
-                filed: Err(fault),
-            })
-        }
+        Err(fault) => return Ok(Err(fault)),
     };
-    make(&mut session, second, &mut replies);
-    Ok(Refiled {
-        replies,
-        filed: Ok((len, session)),
-    })
+    make(&mut session, second, replies);
+    Ok(Ok((len, session)))
 }

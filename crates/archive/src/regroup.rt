@@ -1,8 +1,7 @@
 // Layers squashed to one, in any order of neighbours.
 ghost use Rattle.std.specs.Prelude.{◌≡◌, ℕ, List, true, map, Ok, Err, IfOk, MatchResult, []};
-ghost use Rattle.trees.specs.Entries.{Row};
+ghost use Rattle.trees.specs.Entries.{Row, is_tree};
 ghost use Rattle.marks.specs.Marks.{MarkRow, merged};
-ghost use Rattle.marks.specs.Laws.{treed};
 ghost use Rattle.layers.specs.Layers.{marks_of};
 ghost use Rattle.layer_files.specs.Files.{encoded};
 ghost use Rattle.archive.specs.Groups.{squash_of, squash_at, from_lowest, grouped, laid_all};
@@ -48,7 +47,7 @@ pub fn regroup(layers: Vec<Layer>, order: &[usize]) -> Result<Layer, Fault>
     ensures exact { MatchResult result (λ l. grouped order.now (map marks_of layers.items) ≡ Ok (marks_of l)) (λ f. grouped order.now (map marks_of layers.items) ≡ Err f) }
     ensures same { IfOk result (λ l. (other : List ℕ) (m : List MarkRow) → grouped other (map marks_of layers.items) ≡ Ok m → m ≡ marks_of l) }
     ensures same_file { IfOk result (λ l. (other : List ℕ) (m : List MarkRow) → grouped other (map marks_of layers.items) ≡ Ok m → encoded m ≡ encoded (marks_of l)) }
-    ensures laid { IfOk result (λ l. (e : List Row) → treed e ≡ true → merged (marks_of l) e ≡ laid_all (map marks_of layers.items) e) }
+    ensures laid { IfOk result (λ l. (e : List Row) → is_tree e ≡ true → merged (marks_of l) e ≡ laid_all (map marks_of layers.items) e) }
 {
     let mut layers = layers;
     for at in order {

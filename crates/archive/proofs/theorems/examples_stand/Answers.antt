@@ -8,6 +8,7 @@ use Rattle.archive.proofs.theorems.examples_stand.Goals as goal
 pub returns : goal.returns
 unfolding refusal edited merged written removed squashed
 returns c = record {
+  tree = refl;
   look_file = refl;
   look_under_file = refl;
   look_missing = refl;
