@@ -1,27 +1,23 @@
 -- What one line adds to a script. Assumes nothing.
-use Rattle.std.proofs.Common.{◌≡◌, ℕ, suc, ◌+◌, ◌-◌, ◌≤◌, true, false, cond, eqb, List, [], ◌∷◌, length, take, drop, Some, None, Ok, Err, ap, ◌∙◌, arith}
+use Rattle.std.proofs.Common.{◌≡◌, ℕ, ◌+◌, ◌-◌, ◌≤◌, true, false, cond, eqb, List, [], ◌∷◌, length, take, drop, Some, None, Ok, Err, ap, ◌∙◌, arith}
 use Rattle.std.proofs.lemmas.List.{length-take-le}
 use Rattle.std.specs.Option.{ok_or}
 use Rattle.std.specs.Str.{bytes_eq}
-use Rattle.paths.specs.Pieces.{later, pieces}
+use Rattle.paths.specs.Pieces.{pieces}
 use Rattle.paths.specs.Steps.{and_then, and_then_some}
 use Rattle.scripts.specs.Lines.{line_of}
 use Rattle.scripts.specs.Scripts.{Requests, with_line, unended, lines_of, script_from}
-
--- there is no more than one line a byte, and one
-later_few : (sep : ℕ) (s : List ℕ) → length (later sep s) ≤ length s
-later_few sep [] = omega arith
-later_few sep (b ∷ bs) =
-    let h = later_few sep bs in
-    elim (eqb b sep) as (λ t. length (cond t (pieces sep bs) (later sep bs)) ≤ suc (length bs)) [ true ↦ omega arith | false ↦ omega arith ]
+use Rattle.paths.proofs.Fronts.{later_count}
+use Rattle.std.proofs.lemmas.List.Sums.{count_by-le-length}
 
 unended_shorter : (s : List ℕ) → length (unended s) ≤ length s
 unended_shorter s =
     elim (bytes_eq (drop (length s - 1) s) (10 ∷ [])) as (λ t. length (cond t (take (length s - 1) s) s) ≤ length s) [ true ↦ omega (arith, length-take-le (length s - 1) s (omega arith)) | false ↦ omega arith ]
 
+-- there is no more than one line a byte, and one
 pub lines_few : (s : List ℕ) → length (lines_of s) ≤ length s + 1
 lines_few s =
-    let h : length (pieces 10 (unended s)) ≤ length s + 1 = omega (arith, later_few 10 (unended s), unended_shorter s) in
+    let h : length (pieces 10 (unended s)) ≤ length s + 1 = omega (arith, later_count 10 (unended s), count_by-le-length (λ b. eqb b 10) (unended s), unended_shorter s) in
     elim (eqb (length s) 0) as (λ t. length (cond t [] (pieces 10 (unended s))) ≤ length s + 1) [ true ↦ omega arith | false ↦ h ]
 
 module _ (n : ℕ) (s : Requests) (ls : List (List ℕ)) where

@@ -4,3 +4,5 @@ pub mod Verbs
 pub mod Arguments
 pub mod Lines
 pub mod Scripts
+pub mod Written
+pub mod Laws

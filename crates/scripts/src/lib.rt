@@ -6,5 +6,6 @@ mod arguments;
 mod fault;
 mod line;
 pub mod script;
+pub mod theorems;
 mod values;
 mod verb;
