@@ -2,43 +2,15 @@
 
 #![tactic(auto, using(listing::proofs::Texts::pieces))]
 
-ghost use Rattle.std.specs.Prelude.{◌≡◌, ◌<◌, ◌≤◌, ◌++◌, take, IfOk, vec_items};
-ghost use Rattle.listing.specs.Lines.{digits, escape, escaped};
+ghost use Rattle.std.specs.Prelude.{◌≡◌, take, IfOk, vec_items};
 ghost use Rattle.archive.specs.Calls.{response_of};
 ghost use Rattle.replies.specs.Replies.{entry_text, name_text, listed_text, reply_text};
 
 use archive::reply::Reply;
+use listing::pieces::{content_digits, escape, mode_digits};
 use reports::refusal::{Reason, refusal};
 use std::alloc::{AllocError, Global};
 use trees::entry::Entry;
-use words::printable::is_printable;
-
-// The last `count` digits.
-fn push_digits(text: &mut Vec<u8>, base: u64, count: usize, n: u64) -> Result<(), AllocError>
-    requires base { 0 < base }
-    requires small { base ≤ 16 }
-    ensures { IfOk result (λ _. vec_items text.new ≡ vec_items text.old ++ digits base count n) }
-{
-    if count > 0 {
-        push_digits(text, base, count - 1, n / base)?;
-        let digit = char::from_digit((n % base) as u32, base as u32);
-        text.push(digit.unwrap() as u8)?;
-    }
-    Ok(())
-}
-
-// A byte, escaped if need be.
-fn push_byte(text: &mut Vec<u8>, b: u8) -> Result<(), AllocError>
-    ensures { IfOk result (λ _. vec_items text.new ≡ vec_items text.old ++ escape b) }
-{
-    if is_printable(b) {
-        text.push(b)?;
-    } else {
-        text.push(b'\\')?;
-        push_digits(text, 8, 3, u64::from(b))?;
-    }
-    Ok(())
-}
 
 fn entry_text(heap: Global, entry: Entry) -> Result<Vec<u8>, AllocError>
     ensures { IfOk result (λ v. vec_items v ≡ entry_text entry) }
@@ -47,14 +19,14 @@ fn entry_text(heap: Global, entry: Entry) -> Result<Vec<u8>, AllocError>
     match entry {
         Entry::Dir(dir) => {
             text.extend_from_slice(b"dir ")?;
-            push_digits(&mut text, 8, 4, u64::from(dir.mode))?;
+            text.extend_from_slice(mode_digits(dir.mode).as_str().as_bytes())?;
         }
         Entry::File(file) => {
             text.extend_from_slice(b"file ")?;
-            push_digits(&mut text, 8, 4, u64::from(file.mode))?;
+            text.extend_from_slice(mode_digits(file.mode).as_str().as_bytes())?;
             let size = format!(in heap; " {} ", file.size)?;
             text.extend_from_slice(size.as_bytes())?;
-            push_digits(&mut text, 16, 16, file.content)?;
+            text.extend_from_slice(content_digits(file.content).as_str().as_bytes())?;
         }
     }
     text.push(b'\n')?;
@@ -66,7 +38,7 @@ fn name_text(heap: Global, name: &[u8]) -> Result<Vec<u8>, AllocError>
 {
     let mut text = b"name ".to_vec(heap)?;
     for b in name {
-        push_byte(&mut text, *b)?;
+        text.extend_from_slice(escape(*b).as_str().as_bytes())?;
     }
     text.push(b'\n')?;
     Ok(text)

@@ -28,9 +28,9 @@ Lists rows (Ok text) = (length (listing rows) ≤ 65536) × (vec_items text ≡ 
 Lists rows (Err said) = (65536 < length (listing rows)) × (string_bytes said ≡ refusal list_name (Tree ShortBuffer))
 
 -- the marks of a layer file; of none, no rows
-abbrev pub marks_in : Option (List ℕ) → Result (List MarkRow) LayerFault
-marks_in None = Ok []
-marks_in (Some file) = decoded file
+abbrev pub layer_in : Option (List ℕ) → Result (List MarkRow) LayerFault
+layer_in None = Ok []
+layer_in (Some file) = decoded file
 
 -- why a base and a layer make no pile: the base is judged first
 abbrev pub Refuses : Result (List Row) ManifestFault → Result (List MarkRow) LayerFault → Reason → Type 0
@@ -44,7 +44,7 @@ TellsLaid rows (Ok m) r = Lists (merged m rows) r
 TellsLaid rows (Err f) r = Says (refusal top_name (Layer f)) r
 
 abbrev pub Tells : Result (List Row) ManifestFault → Option (List ℕ) → Report → Type 0
-Tells (Ok rows) top r = TellsLaid rows (marks_in top) r
+Tells (Ok rows) top r = TellsLaid rows (layer_in top) r
 Tells (Err f) top r = Says (refusal base_name (Manifest f)) r
 
 -- of the text of a manifest, and of a layer file, where there is one: the base is judged first

@@ -4,7 +4,7 @@ ghost use Rattle.std.specs.Option.{option_map};
 ghost use Rattle.rows.specs.Sorts.{kept};
 ghost use Rattle.layers.specs.Layers.{marks_of};
 ghost use Rattle.manifests.specs.Manifests.{indexed};
-ghost use Rattle.reports.specs.Reports.{Lists, marks_in, Refuses, Reports};
+ghost use Rattle.reports.specs.Reports.{Lists, layer_in, Refuses, Reports};
 
 use crate::refusal::{Reason, refusal};
 use base::Manifest;
@@ -40,21 +40,16 @@ pub fn report_tree<T: Tree>(heap: Global, tree: &T) -> Result<Report, AllocError
 }
 
 // The tree of a manifest's text, over rows that are lent for it.
-pub fn manifest_tree<'a>(
-    text: &[u8],
-    rows: &'a mut [Row<Entry>],
-) -> Result<Manifest<'a>, ManifestFault>
+fn manifest_tree<'a>(text: &[u8], rows: &'a mut [Row<Entry>]) -> Result<Manifest<'a>, ManifestFault>
     ensures { MatchResult result (λ m. indexed (length rows.old) text.now ≡ Ok (kept m.rows)) (λ f. indexed (length rows.old) text.now ≡ Err f) }
 {
     let count = index(text, rows)?;
-    let mut tree = Manifest::empty();
-    tree.load(text, &rows[..count])?;
-    Ok(tree)
+    Manifest::read(text, &rows[..count])
 }
 
 // The layer of a file; where there is none, one without rows.
 fn top_layer(file: Option<&[u8]>) -> Result<Layer, LayerFault>
-    ensures { MatchResult result (λ l. marks_in (option_map (λ t. t.now) file.entry) ≡ Ok (marks_of l)) (λ f. marks_in (option_map (λ t. t.now) file.entry) ≡ Err f) }
+    ensures { MatchResult result (λ l. layer_in (option_map (λ t. t.now) file.entry) ≡ Ok (marks_of l)) (λ f. layer_in (option_map (λ t. t.now) file.entry) ≡ Err f) }
 {
     let mut layer = Layer::new();
     if let Some(bytes) = file {
@@ -69,7 +64,7 @@ fn pile<'a>(
     top: Option<&[u8]>,
     rows: &'a mut [Row<Entry>],
 ) -> Result<Sealed<Manifest<'a>>, Reason>
-    ensures { MatchResult result (λ s. (indexed (length rows.old) base.now ≡ Ok (kept s.session.lower.rows)) × (marks_in (option_map (λ t. t.now) top.entry) ≡ Ok (marks_of s.session.layer))) (λ r. Refuses (indexed (length rows.old) base.now) (marks_in (option_map (λ t. t.now) top.entry)) r) }
+    ensures { MatchResult result (λ s. (indexed (length rows.old) base.now ≡ Ok (kept s.session.lower.rows)) × (layer_in (option_map (λ t. t.now) top.entry) ≡ Ok (marks_of s.session.layer))) (λ r. Refuses (indexed (length rows.old) base.now) (layer_in (option_map (λ t. t.now) top.entry)) r) }
 {
     let tree = manifest_tree(base, rows)?;
     let layer = top_layer(top)?;

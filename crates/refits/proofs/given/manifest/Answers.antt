@@ -1,0 +1,7 @@
+-- `manifest` meets its contract. Assumes nothing.
+use Rattle.std.proofs.Common.{length, take}
+use Rattle.reports.proofs.Told.{reads}
+use Rattle.refits.proofs.given.manifest.Goals as goal
+
+pub returns : goal.returns
+returns c = reads c.args.text.now (length c.args.rows.now) (take c.in_ok-count.count c.index.new.rows) c.read.result c.in_ok-count.ensures.1 c.read.ensures

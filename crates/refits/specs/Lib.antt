@@ -1,0 +1,4 @@
+pub mod Judging
+pub mod Tellings
+pub mod Refits
+pub mod Steps
