@@ -1,9 +1,8 @@
 // What the tree of the base answers, and the same tree lent.
-use crate::indexing::print_entry;
+use crate::indexing::{print_entry, tree_of};
 use crate::outcomes::print_answer;
 use listing::list;
 use manifests::index::blank_row;
-use reports::report::manifest_tree;
 use std::io;
 use std::io::Write;
 use trees::tree::Tree;
@@ -58,7 +57,7 @@ pub(crate) fn ask_base(
     question: Question<'_>,
 ) -> io::Result<()> {
     let mut rows = [blank_row(); 8];
-    let Ok(tree) = manifest_tree(base, &mut rows) else {
+    let Ok(tree) = tree_of(base, &mut rows) else {
         return rt.println("the base is refused");
     };
     ask(rt, &tree, room, question)?;

@@ -1,7 +1,8 @@
 // What an index writes, and what a load says of rows.
 use crate::outcomes::{print_answer, print_listing};
+use base::Manifest;
+use manifests::fault::ManifestFault;
 use manifests::index::{blank_row, index};
-use reports::report::manifest_tree;
 use rows::row::Row;
 use std::alloc::{AllocError, Global};
 use std::io;
@@ -14,6 +15,15 @@ pub(crate) fn print_entry(rt: &HostRuntime, entry: Entry) -> io::Result<()> {
         Entry::Dir(dir) => println!(rt; "dir {:o}", dir.mode),
         Entry::File(file) => println!(rt; "file {:o} {} {:x}", file.mode, file.size, file.content),
     }
+}
+
+// The tree of a manifest's text, over its rows.
+pub(crate) fn tree_of<'a>(
+    text: &[u8],
+    rows: &'a mut [Row<Entry>],
+) -> Result<Manifest<'a>, ManifestFault> {
+    let count = index(text, rows)?;
+    Manifest::read(text, &rows[..count])
 }
 
 // Prints what an index says where so many rows are lent, each the file `mark`, and the rows after it.
@@ -57,7 +67,7 @@ pub(crate) fn print_load(
         return rt.println("the base is refused");
     };
     let some = picked(rt.alloc(), &rows[..count], digits)?;
-    let Ok(mut tree) = manifest_tree(base, &mut rows) else {
+    let Ok(mut tree) = tree_of(base, &mut rows) else {
         return rt.println("the base is refused");
     };
     print_answer(rt, tree.load(text, some.as_slice()).map(|()| "loaded"))?;

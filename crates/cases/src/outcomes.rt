@@ -1,6 +1,7 @@
 // What becomes of a manifest's text.
+use crate::indexing::tree_of;
 use manifests::index::blank_row;
-use reports::report::{Report, manifest_tree, report_tree};
+use reports::report::{Report, report_tree};
 use std::fmt::Display;
 use std::io;
 use std::io::Write;
@@ -40,7 +41,7 @@ pub(crate) fn print_listing<T: Tree>(rt: &HostRuntime, tree: &T, text: &[u8]) ->
 // Prints the listing of a manifest's tree, or why the manifest is refused, where so many rows are lent.
 pub(crate) fn print_outcome(rt: &HostRuntime, text: &[u8], given: usize) -> io::Result<()> {
     let mut rows = vec![in rt.alloc(); blank_row(); given]?;
-    match manifest_tree(text, rows.as_mut_slice()) {
+    match tree_of(text, rows.as_mut_slice()) {
         Ok(tree) => print_listing(rt, &tree, text),
         Err(fault) => rt.println(fault),
     }

@@ -1,8 +1,8 @@
 // What the tree of the kit answers, and the same tree lent.
 use crate::outcomes::KIT;
-use manifests::index::blank_row;
+use base::Manifest;
+use manifests::index::{blank_row, index};
 use paths::PathFault;
-use reports::report::manifest_tree;
 use std::process::Abort;
 use std::test::Fail;
 use trees::entry::{DirMeta, Entry, FileMeta};
@@ -97,7 +97,8 @@ fn check_nexts<T: Tree>(rt: &impl Abort, tree: &T) {
 #[test]
 fn looks(rt: HostRuntime) -> Result<(), Fail> {
     let mut rows = [blank_row(); 5];
-    let tree = manifest_tree(KIT.as_bytes(), &mut rows)?;
+    let count = index(KIT.as_bytes(), &mut rows)?;
+    let tree = Manifest::read(KIT.as_bytes(), &rows[..count])?;
     check_looks(&rt, &tree);
     check_looks(&rt, &&tree);
     Ok(())
@@ -106,7 +107,8 @@ fn looks(rt: HostRuntime) -> Result<(), Fail> {
 #[test]
 fn nexts(rt: HostRuntime) -> Result<(), Fail> {
     let mut rows = [blank_row(); 5];
-    let tree = manifest_tree(KIT.as_bytes(), &mut rows)?;
+    let count = index(KIT.as_bytes(), &mut rows)?;
+    let tree = Manifest::read(KIT.as_bytes(), &rows[..count])?;
     check_nexts(&rt, &tree);
     check_nexts(&rt, &&tree);
     Ok(())

@@ -1,8 +1,8 @@
 // Buffers for a listing: one too short is left alone, and of one too long the rest is.
 use crate::outcomes::KIT;
+use base::Manifest;
 use listing::list;
-use manifests::index::blank_row;
-use reports::report::manifest_tree;
+use manifests::index::{blank_row, index};
 use std::process::Abort;
 use std::test::Fail;
 use trees::fault::Fault;
@@ -35,7 +35,8 @@ fn check_rooms<T: Tree>(rt: &impl Abort, tree: &T) {
 #[test]
 fn rooms(rt: HostRuntime) -> Result<(), Fail> {
     let mut rows = [blank_row(); 5];
-    let tree = manifest_tree(KIT.as_bytes(), &mut rows)?;
+    let count = index(KIT.as_bytes(), &mut rows)?;
+    let tree = Manifest::read(KIT.as_bytes(), &rows[..count])?;
     check_rooms(&rt, &tree);
     check_rooms(&rt, &&tree);
     Ok(())

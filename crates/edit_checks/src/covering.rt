@@ -1,9 +1,9 @@
 // What covers the tree below: whiteouts, opaque directories, and the directories that are copied up.
 use crate::kit::{ASKED, KIT, sealed};
 use crate::scripts::{ask, run, see_marks};
+use base::Manifest;
 use layers::layer::Layer;
-use manifests::index::blank_row;
-use reports::report::manifest_tree;
+use manifests::index::{blank_row, index};
 use sessions::session::Session;
 use std::process::Abort;
 use std::test::Fail;
@@ -180,7 +180,8 @@ etc/z = F 644 0 0",
 #[test]
 fn covering(rt: HostRuntime) -> Result<(), Fail> {
     let mut rows = [blank_row(); 8];
-    let tree = manifest_tree(KIT.as_bytes(), &mut rows)?;
+    let count = index(KIT.as_bytes(), &mut rows)?;
+    let tree = Manifest::read(KIT.as_bytes(), &rows[..count])?;
     stage_all(&rt, &tree, &[REMOVED, MADE_AGAIN, FILES, OWN])?;
     stage_all(&rt, &tree, &[MODES])?;
     stage_all(&rt, &tree, &[MERGED])?;
@@ -213,7 +214,8 @@ etc/trays/t2 = F 644 1 c3",
 #[test]
 fn copied_up(rt: HostRuntime) -> Result<(), Fail> {
     let mut rows = [blank_row(); 8];
-    let tree = manifest_tree(KIT.as_bytes(), &mut rows)?;
+    let count = index(KIT.as_bytes(), &mut rows)?;
+    let tree = Manifest::read(KIT.as_bytes(), &rows[..count])?;
     let pile = sealed(&rt, tree, OTHER_MODES)?;
     stage_all(&rt, &pile, &[COPIED])
 }

@@ -1,9 +1,9 @@
 // A layer that was parted from its tree, over other trees; and sealed piles.
 use crate::kit::{KIT, NOTHING, ROOT, flat_kit, high_pile_kit, sealed};
 use crate::scripts::{ask, run};
+use base::Manifest;
 use layers::layer::Layer;
-use manifests::index::blank_row;
-use reports::report::manifest_tree;
+use manifests::index::{blank_row, index};
 use sessions::session::Session;
 use std::process::Abort;
 use std::test::Fail;
@@ -65,15 +65,22 @@ fn lay_over<T: Tree + Drop>(
 #[test]
 fn laying(rt: HostRuntime) -> Result<(), Fail> {
     let mut rows = [blank_row(); 8];
-    let tree = manifest_tree(KIT.as_bytes(), &mut rows)?;
+    let count = index(KIT.as_bytes(), &mut rows)?;
+    let tree = Manifest::read(KIT.as_bytes(), &rows[..count])?;
     let (layer, tree) = sealed(&rt, tree, CHANGES)?.part();
     let layer = lay_over(&rt, layer, tree)?;
     let layer = lay_over(&rt, layer, flat_kit(&rt)?)?;
     let mut rows = [blank_row(); 1];
-    let root = manifest_tree(ROOT.as_bytes(), &mut rows)?;
+    let count = index(ROOT.as_bytes(), &mut rows)?;
+    let root = Manifest::read(ROOT.as_bytes(), &rows[..count])?;
     let layer = lay_over(&rt, layer, high_pile_kit(&rt, &root)?)?;
     let layer = lay_over(&rt, layer, root)?;
     let mut none = [blank_row(); 1];
-    lay_over(&rt, layer, manifest_tree(NOTHING.as_bytes(), &mut none)?)?;
+    let count = index(NOTHING.as_bytes(), &mut none)?;
+    lay_over(
+        &rt,
+        layer,
+        Manifest::read(NOTHING.as_bytes(), &none[..count])?,
+    )?;
     Ok(())
 }

@@ -1,9 +1,9 @@
 // Each refusal of a question and of an edit, and the order of the checks.
 use crate::kit::{ASKED, KIT, NOTHING, flat_kit};
 use crate::scripts::{ask, run};
+use base::Manifest;
 use edits::editable::Editable;
-use manifests::index::blank_row;
-use reports::report::manifest_tree;
+use manifests::index::{blank_row, index};
 use sessions::session::Session;
 use std::process::Abort;
 use std::test::Fail;
@@ -128,11 +128,13 @@ room = 192";
 #[test]
 fn refusals(rt: HostRuntime) -> Result<(), Fail> {
     let mut rows = [blank_row(); 8];
-    let tree = manifest_tree(KIT.as_bytes(), &mut rows)?;
+    let count = index(KIT.as_bytes(), &mut rows)?;
+    let tree = Manifest::read(KIT.as_bytes(), &rows[..count])?;
     refuse_all(&rt, Session::open(tree))?;
     refuse_all(&rt, Session::open(flat_kit(&rt)?))?;
     refuse_all(&rt, flat_kit(&rt)?)?;
     let mut none = [blank_row(); 1];
-    let tree = manifest_tree(NOTHING.as_bytes(), &mut none)?;
+    let count = index(NOTHING.as_bytes(), &mut none)?;
+    let tree = Manifest::read(NOTHING.as_bytes(), &none[..count])?;
     run(&rt, &mut Session::open(tree), WITHOUT_ROOT)
 }

@@ -7,11 +7,11 @@ use archive::call::Call;
 use archive::filing::refile;
 use archive::replay::{replay, replay_on};
 use archive::reply::Reply;
+use base::Manifest;
 use edits::action::Action;
 use layer_files::read::read;
 use layers::layer::Layer;
-use manifests::index::blank_row;
-use reports::report::manifest_tree;
+use manifests::index::{blank_row, index};
 use std::alloc::{AllocError, Global};
 use std::process::Abort;
 use std::test::Fail;
@@ -210,11 +210,11 @@ etc/trays/t1 = N";
 
 // Both lists on one session over a tree, which stays as it was.
 fn replay_both<T: Tree + Drop>(rt: &(impl Abort + AllocGlobal), tree: T) -> Result<(), Fail> {
-    let first = packed_all(rt.alloc(), &FIRST)?;
-    let (replies, mut session) = replay_on(rt.alloc(), tree, first)?;
+    let mut replies = Vec::with_capacity(rt.alloc(), FIRST.len())?;
+    let mut session = replay_on(tree, packed_all(rt.alloc(), &FIRST)?, &mut replies)?;
     see_replies(rt, &replies, &FIRST)?;
-    let second = packed_all(rt.alloc(), &SECOND)?;
-    let replies = replay(rt.alloc(), &mut session, second)?;
+    let mut replies = Vec::with_capacity(rt.alloc(), SECOND.len())?;
+    replay(&mut session, packed_all(rt.alloc(), &SECOND)?, &mut replies)?;
     see_replies(rt, &replies, &SECOND)?;
     let (layer, tree) = session.seal().part();
     see_marks(rt, &layer, 4, SECOND_MARKS)?;
@@ -224,7 +224,8 @@ fn replay_both<T: Tree + Drop>(rt: &(impl Abort + AllocGlobal), tree: T) -> Resu
 #[test]
 fn replays(rt: HostRuntime) -> Result<(), Fail> {
     let mut rows = [blank_row(); 8];
-    replay_both(&rt, manifest_tree(KIT.as_bytes(), &mut rows)?)?;
+    let count = index(KIT.as_bytes(), &mut rows)?;
+    replay_both(&rt, Manifest::read(KIT.as_bytes(), &rows[..count])?)?;
     replay_both(&rt, flat_kit(&rt)?)
 }
 
@@ -234,18 +235,17 @@ const FILED: usize = 91;
 #[test]
 fn refiled(rt: HostRuntime) -> Result<(), Fail> {
     let mut rows = [blank_row(); 8];
-    let tree = manifest_tree(KIT.as_bytes(), &mut rows)?;
+    let count = index(KIT.as_bytes(), &mut rows)?;
+    let tree = Manifest::read(KIT.as_bytes(), &rows[..count])?;
     let first = packed_all(rt.alloc(), &FIRST)?;
     let second = packed_all(rt.alloc(), &SECOND)?;
     let mut buffer = [b'@'; 100];
-    let refiled = refile(rt.alloc(), tree, first, &mut buffer, flat_kit(&rt)?, second)?;
-    let (first, second) = refiled
-        .replies
-        .split_at_checked(FIRST.len())
-        .ok_or("few replies")?;
+    let mut replies = Vec::with_capacity(rt.alloc(), FIRST.len() + SECOND.len())?;
+    let other = flat_kit(&rt)?;
+    let (len, session) = refile(tree, first, &mut buffer, other, second, &mut replies)??;
+    let (first, second) = replies.split_at_checked(FIRST.len()).ok_or("few replies")?;
     see_replies(&rt, first, &FIRST)?;
     see_replies(&rt, second, &SECOND)?;
-    let (len, session) = refiled.filed?;
     assert_eq!(rt; len, FILED);
     let (layer, tree) = session.seal().part();
     see_marks(&rt, &layer, 4, SECOND_MARKS)?;
@@ -267,13 +267,34 @@ fn see_filed(rt: &(impl Abort + AllocGlobal), buffer: &[u8]) -> Result<(), Fail>
 #[test]
 fn not_filed(rt: HostRuntime) -> Result<(), Fail> {
     let mut rows = [blank_row(); 8];
-    let tree = manifest_tree(KIT.as_bytes(), &mut rows)?;
+    let count = index(KIT.as_bytes(), &mut rows)?;
+    let tree = Manifest::read(KIT.as_bytes(), &rows[..count])?;
     let first = packed_all(rt.alloc(), &FIRST)?;
     let second = packed_all(rt.alloc(), &SECOND)?;
     let mut buffer = [b'@'; FILED - 1];
-    let refiled = refile(rt.alloc(), tree, first, &mut buffer, flat_kit(&rt)?, second)?;
-    see_replies(&rt, &refiled.replies, &FIRST)?;
-    assert!(rt; matches!(refiled.filed, Err(Fault::ShortBuffer)));
+    let mut replies = Vec::with_capacity(rt.alloc(), FIRST.len() + SECOND.len())?;
+    let filed = refile(
+        tree,
+        first,
+        &mut buffer,
+        flat_kit(&rt)?,
+        second,
+        &mut replies,
+    )?;
+    see_replies(&rt, &replies, &FIRST)?;
+    assert!(rt; matches!(filed, Err(Fault::ShortBuffer)));
     assert!(rt; buffer.iter().all(|byte| *byte == b'@'));
+    Ok(())
+}
+
+// A vector with room for one reply too few: no call is made.
+#[test]
+fn no_room_for_replies(rt: HostRuntime) -> Result<(), Fail> {
+    let first = packed_all(rt.alloc(), &FIRST)?;
+    let mut replies = Vec::with_capacity(rt.alloc(), FIRST.len())?;
+    replies.push(Reply::Room(0))?;
+    let refused = replay_on(flat_kit(&rt)?, first, &mut replies);
+    assert!(rt; matches!(refused, Err(Fault::ShortBuffer)));
+    assert_eq!(rt; replies.len(), 1);
     Ok(())
 }

@@ -1,9 +1,9 @@
 // Rows run out: of a session, which has 192, and of a flat tree, which has 256.
 use crate::kit::{KIT, flat_kit};
 use crate::scripts::run;
+use base::Manifest;
 use edits::editable::Editable;
-use manifests::index::blank_row;
-use reports::report::manifest_tree;
+use manifests::index::{blank_row, index};
 use sessions::session::Session;
 use std::test::Fail;
 use trees::entry::{Entry, FileMeta};
@@ -83,7 +83,8 @@ room = 0";
 #[test]
 fn session_rows(rt: HostRuntime) -> Result<(), Fail> {
     let mut rows = [blank_row(); 8];
-    let mut session = Session::open(manifest_tree(KIT.as_bytes(), &mut rows)?);
+    let count = index(KIT.as_bytes(), &mut rows)?;
+    let mut session = Session::open(Manifest::read(KIT.as_bytes(), &rows[..count])?);
     run(&rt, &mut session, "mkdir d 755 = done\nroom = 190")?;
     fill(&mut session, "abcdefghijklmnopqr", "0123456789")?;
     fill(&mut session, "s", "01234567")?;

@@ -1,8 +1,8 @@
 // The kit's worked session, over each kind of tree that has the kit's entries.
 use crate::kit::{ASKED, KIT, ROOT, flat_kit, high_pile_kit, pile_kit};
 use crate::scripts::{ask, run, see_marks};
-use manifests::index::blank_row;
-use reports::report::manifest_tree;
+use base::Manifest;
+use manifests::index::{blank_row, index};
 use sessions::session::Session;
 use std::process::Abort;
 use std::test::Fail;
@@ -55,12 +55,14 @@ fn work<T: Tree + Drop>(rt: &(impl Abort + AllocGlobal), tree: T) -> Result<(), 
 #[test]
 fn worked(rt: HostRuntime) -> Result<(), Fail> {
     let mut rows = [blank_row(); 8];
-    let tree = manifest_tree(KIT.as_bytes(), &mut rows)?;
+    let count = index(KIT.as_bytes(), &mut rows)?;
+    let tree = Manifest::read(KIT.as_bytes(), &rows[..count])?;
     work(&rt, &tree)?;
     work(&rt, tree)?;
     work(&rt, flat_kit(&rt)?)?;
     let mut rows = [blank_row(); 1];
-    let root = manifest_tree(ROOT.as_bytes(), &mut rows)?;
+    let count = index(ROOT.as_bytes(), &mut rows)?;
+    let root = Manifest::read(ROOT.as_bytes(), &rows[..count])?;
     work(&rt, &pile_kit(&rt, &root)?)?;
     work(&rt, high_pile_kit(&rt, root)?)
 }
