@@ -153,6 +153,9 @@ module _ (s : List ℕ) (k : ℕ) where
       let h = join-take k (split s) in
       ap (take (length (join (take k (split s))))) (sym (join_split s) ∙ h.1) ∙ take_at (join (take k (split s))) h.0 _ refl
 
+  pub cut_at : (t : List ℕ) (end : ℕ) → t ≡ s → end ≡ length (join (take k (split s))) → take end t ≡ join (take k (split s))
+  cut_at t end is at = (λ i. take (at i) (is i)) ∙ cut-text
+
   cut_long : length (join (take k (split s))) ≤ length s
   cut_long =
       let h = join-take k (split s) in

@@ -1,5 +1,5 @@
 -- What the code finds in texts, and writes. Assumes nothing.
-use Rattle.std.proofs.Common.{◌≡◌, ℕ, zero, suc, Option, ◌+◌, ◌-◌, ◌<◌, ◌≤◌, Bool, true, false, cond, ◌&&◌, eqb, List, [], ◌∷◌, ◌++◌, length, get_or, take, drop, set, replicate, take-append-drop, sym, refl, ap, subst, ◌∙◌, arith}
+use Rattle.std.proofs.Common.{◌≡◌, ℕ, zero, suc, Option, ◌+◌, ◌-◌, ◌<◌, ◌≤◌, Bool, true, false, cond, ◌&&◌, eqb, List, [], ◌∷◌, ◌++◌, length, get_or, take, drop, set, replicate, take-append-drop, sym, refl, ap, subst, ◌∙◌, add-one, arith}
 use Rattle.std.proofs.lemmas.List.{drop_more, drop_all, drop_at, drop-replicate, take_more_set, length-set, append_assoc, length-drop, get_or-drop}
 use Rattle.std.proofs.lemmas.Slice.{take-put_mid}
 use borrow.Rule.Slice.PartMut.{put_mid}
@@ -87,6 +87,57 @@ span-split [] zero = refl
 span-split [] (suc zero) = refl
 span-split [] (suc (suc k)) = refl
 span-split (b ∷ bs) k = refl
+
+-- ---- where the next name ends
+
+-- how much one name more takes, behind the first ones: with the `/` before it
+abbrev more : List ℕ → ℕ
+more [] = 0
+more (b ∷ bs) = suc (length (front 47 bs))
+
+span_next : (s : List ℕ) (k : ℕ) → span (suc (suc k)) s ≡ span (suc k) s + more (drop (span (suc k) s) s)
+span_next [] zero = refl
+span_next [] (suc k) = refl
+span_next (b ∷ bs) k = go (eqb b 47) refl (λ j. span_next bs j) k where
+  on : (p q r : ℕ) → p ≡ suc q → r ≡ q + more (drop q bs) → suc r ≡ p + more (drop p (b ∷ bs))
+  on p q r e h =
+      let first : suc r ≡ suc q + more (drop q bs) = omega arith in
+      subst (λ n. suc r ≡ n + more (drop n (b ∷ bs))) (sym e) first
+
+  go : (t : Bool) → eqb b 47 ≡ t → ((j : ℕ) → span (suc (suc j)) bs ≡ span (suc j) bs + more (drop (span (suc j) bs) bs)) → (k : ℕ) → span (suc (suc k)) (b ∷ bs) ≡ span (suc k) (b ∷ bs) + more (drop (span (suc k) (b ∷ bs)) (b ∷ bs))
+  go true e rest zero =
+      let stop = eqb-true b 47 e in
+      let none : length (front 47 (b ∷ bs)) ≡ 0 = ap length (front_stop 47 b bs stop) in
+      let first : suc (length (front 47 bs)) ≡ 0 + suc (length (front 47 bs)) = omega arith in
+      span_stop b bs zero stop ∙ subst (λ n. suc (length (front 47 bs)) ≡ n + more (drop n (b ∷ bs))) (sym none) first
+  go true e rest (suc k) =
+      let stop = eqb-true b 47 e in
+      span_stop b bs (suc k) stop ∙ on _ _ _ (span_stop b bs k stop) (rest k)
+  go false e rest k =
+      let goes = eqb-false b 47 e in
+      span_go b bs (suc k) goes ∙ on _ _ _ (span_go b bs k goes) (rest k)
+
+names_long : (s : List ℕ) (k : ℕ) → length (join (take (k + 1) (split s))) ≡ span (suc k) s
+names_long s k = ap (λ n. length (join (take n (split s)))) (add-one k) ∙ span-split s (suc k)
+
+pub next_first : (s : List ℕ) → length (join (take (0 + 1) (split s))) ≡ length (front 47 s)
+next_first s = names_long s 0
+
+-- behind the last name there is none
+pub next_none : (s : List ℕ) (k end : ℕ) → end ≡ length (join (take k (split s))) → length s ≤ end → end ≡ length (join (take (k + 1) (split s)))
+next_none [] zero end is e = is
+next_none (b ∷ bs) zero end is e = absurd (omega arith)
+next_none s (suc k) end is e =
+    let here = is ∙ span-split s (suc k) in
+    let last = drop_all end s (omega arith) in
+    omega (arith, names_long s (suc k), span_next s k, here, ap (λ n. more (drop n s)) here, ap more last)
+
+pub next_some : (s : List ℕ) (k end : ℕ) → 0 < k → end ≡ length (join (take k (split s))) → end < length s → end + 1 + length (front 47 (drop (end + 1) s)) ≡ length (join (take (k + 1) (split s)))
+next_some s zero end some is lt = absurd (omega arith)
+next_some s (suc k) end some is lt =
+    let here = is ∙ span-split s (suc k) in
+    let next = drop_more s end 0 lt in
+    omega (arith, names_long s (suc k), span_next s k, here, ap (λ n. more (drop n s)) here, ap more next)
 
 -- ---- the last name
 

@@ -66,6 +66,8 @@ impl Path {
         Prefixes {
             path: self,
             depth: 0,
+            end: 0,
+            last: self.depth(),
         }
     }
 

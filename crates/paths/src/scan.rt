@@ -1,5 +1,5 @@
 // The rule of names and paths, and what is told of a path by its bytes.
-ghost use Rattle.std.specs.Prelude.{◌≡◌, ◌≤◌, [], ◌∷◌, length, take};
+ghost use Rattle.std.specs.Prelude.{◌≡◌, ◌≢◌, ◌+◌, ◌<◌, ◌≤◌, [], ◌∷◌, length, take, slice_index_or};
 ghost use Rattle.paths.specs.Names.{split, join, plain, reserved, good_name, fault_in, fault, Checked};
 ghost use Rattle.paths.specs.Order.{weight, by_weight, goes_on};
 
@@ -63,11 +63,27 @@ fn weight_of(b: &u8) -> u8
     if *b == b'/' { 0 } else { *b }
 }
 
-// The order of two texts, with `/` read as 0.
+// How many bytes two texts begin with that are the same: all of one, or the next two differ.
+fn shared_len(a: &[u8], b: &[u8]) -> usize
+    ensures same { take result a.now ≡ take result b.now }
+    ensures in_first { result ≤ length a.now }
+    ensures in_second { result ≤ length b.now }
+    ensures most { result < length a.now → result < length b.now → slice_index_or a.now result 0 ≢ slice_index_or b.now result 0 }
+{
+    a.iter()
+        .zip(b)
+        .position(|(x, y)| x != y)
+        .unwrap_or(a.len().min(b.len()))
+}
+
+// The order of two texts, with `/` read as 0. Most of two paths is the same, so the bytes that they share are passed over first,
+// with one test for each.
 pub(crate) fn compare_texts(a: &[u8], b: &[u8]) -> Ordering
     ensures { result ≡ by_weight a.now b.now }
 {
-    a.iter().map(weight_of).cmp(b.iter().map(weight_of))
+    let shared = shared_len(a, b);
+    let first = a[shared..].iter().map(weight_of);
+    first.cmp(b[shared..].iter().map(weight_of))
 }
 
 // Whether a name ends before this text: there is no more, or a `/`.
@@ -107,4 +123,16 @@ pub(crate) fn prefix_end(s: &[u8], k: usize) -> usize
         .filter(|(_, b)| **b == b'/')
         .nth(passed)
         .map_or(s.len(), |(i, _)| i)
+}
+
+// The length of the first `k + 1` names, where the first `k` end at `end`: read on from there, and not from the beginning.
+pub(crate) fn next_end(s: &[u8], k: usize, end: usize) -> usize
+    requires { end ≡ length (join (take k (split s.now))) }
+    ensures { result ≡ length (join (take (k + 1) (split s.now))) }
+{
+    if end >= s.len() {
+        return end;
+    }
+    let start = if k == 0 { 0 } else { end + 1 };
+    start + front_len(&s[start..], b'/')
 }
