@@ -1,26 +1,27 @@
 -- Where an edit of rows begins and ends. Assumes nothing.
-use Rattle.std.proofs.Common.{◌≡◌, ℕ, zero, suc, ◌-◌, ◌≤◌, Bool, true, false, cond, ◌&&◌, List, [], ◌∷◌, ◌++◌, length, take, drop, Some, None, Option, slice_get, MatchOption, Bor, sym, refl, ap, ◌∙◌}
+use Rattle.std.proofs.Common.{◌≡◌, ℕ, zero, suc, ◌+◌, ◌-◌, ◌≤◌, Bool, true, false, cond, not, ◌&&◌, List, [], ◌∷◌, ◌++◌, length, take, drop, Some, None, Option, slice_get, MatchOption, Bor, inl, inr, sym, refl, ap, ◌∙◌}
 use native.Mathlib.Numerals.{unary_clauses}
 use mathlib.Core.Bool.{and_assoc}
 use mathlib.Core.List.{map-append}
-use Rattle.std.proofs.lemmas.List.{take-map, drop-map}
+use Rattle.std.proofs.lemmas.List.{take-map, drop-map, drop-drop}
 use Rattle.std.proofs.Math.Bool.{and-true}
-use Rattle.std.proofs.lemmas.Bool.{and_parts, false_from_ne_true}
+use Rattle.std.proofs.lemmas.Bool.{true≢false, and_parts, false_from_ne_true, cond-true, cond-false}
 use Rattle.std.proofs.lemmas.Option.{none-some, same_Some}
 use Rattle.std.specs.Bool.{then_some}
 use Rattle.std.specs.Option.{option_copied}
 use Rattle.std.specs.Ordering.{is_le}
 use Rattle.paths.specs.Order.{by_names}
 use Rattle.paths.specs.Paths.{names}
-use Rattle.paths.proofs.Laws.{prefix_first}
+use Rattle.paths.proofs.Laws.{prefix_first, between}
 use Rattle.rows.specs.declared.row.Row.{Row}
-use Rattle.rows.specs.Maps.{Names, before, under, above, ascending}
+use Rattle.rows.specs.Maps.{Names, before, under, above, ascending, without}
 use Rattle.rows.specs.Rows.{row_of, rows_of}
-use Rattle.rows.specs.Positions.{lead}
+use Rattle.rows.specs.Positions.{lead, led_under}
 use Rattle.rows.specs.Tables.{spliced, Spliced}
-use Rattle.rows.proofs.Orders.{not_before_self, le-before}
-use Rattle.rows.proofs.Firsts.{tail-ascends}
+use Rattle.rows.proofs.Orders.{before-le, before-trans, not_before_self, le-before}
+use Rattle.rows.proofs.Firsts.{In, head_least, tail-ascends}
 use Rattle.rows.proofs.Leads.{asked-at}
+use Rattle.rows.proofs.Places.{not_before-le}
 use Rattle.rows.proofs.Changed.{under-says}
 
 -- what is under a path does not come before it
@@ -91,3 +92,60 @@ module _ {V : Type 0} where
     by : (o : Option (Bor (Row V))) → MatchOption o (b ≡ true) (λ r. b ≡ before p (names r.now.path)) → b ≡ above_in p (option_copied o)
     by None h = h
     by (Some r) h = h
+
+  -- ---- rows under a path
+
+  module _ (p : Names) where
+    all_stay : (rs : List (Names × V)) → ((x : Names × V) → In rs x → under p x.0 ≡ false) → without p rs ≡ rs
+    all_stay [] h = refl
+    all_stay (r ∷ rs) h = cond-true (not (under p r.0)) (r ∷ without p rs) (without p rs) (ap not (h r (inl refl))) ∙ ap (λ xs. r ∷ xs) (all_stay rs (λ x i. h x (inr i)))
+
+    -- of the rows, as they were asked
+    pub led_stop : (r : Row V) (rs : List (Row V)) → under p (names r.path) ≡ false → led_under p (rows_of (r ∷ rs)) ≡ 0
+    led_stop r rs e = cond-false (under p (names r.path)) (suc (led_under p (rows_of rs))) 0 e
+
+    pub led_go : (r : Row V) (rs : List (Row V)) → under p (names r.path) ≡ true → led_under p (rows_of (r ∷ rs)) ≡ suc (led_under p (rows_of rs))
+    led_go r rs e = cond-true (under p (names r.path)) (suc (led_under p (rows_of rs))) 0 e
+
+    -- no row is before p, as the first is not
+    abbrev late : List (Names × V) → Type 0
+    late [] = Unit {0}
+    late (r ∷ rs) = before r.0 p ≡ false
+
+    late-tail : (r : Names × V) (rs : List (Names × V)) → ascending (r ∷ rs) ≡ true → before r.0 p ≡ false → late rs
+    late-tail r [] up h = tt
+    late-tail r (s ∷ rs) up h = false_from_ne_true (before s.0 p) (λ e. true≢false (sym (before-trans r.0 s.0 p (head_least r (s ∷ rs) up s (inl refl)) e) ∙ h))
+
+    -- from the first on that does not come before p, those under p come first
+    behind-led : (rs : List (Names × V)) → ascending rs ≡ true → late rs → without p rs ≡ drop (led_under p rs) rs
+    behind-led [] up h = refl
+    behind-led (r ∷ rs) up h = go (under p r.0) refl (behind-led rs (tail-ascends r rs up) (late-tail r rs up h)) where
+      off : under p r.0 ≡ false → (x : Names × V) → In rs x → under p x.0 ≡ false
+      off e x i =
+          false_from_ne_true (under p x.0)
+          (λ u. true≢false (sym ((under-says p r.0).1 (between p r.0 x.0 (not_before-le r.0 p h) (before-le r.0 x.0 (head_least r rs up x i)) ((under-says p x.0).0 u))) ∙ e))
+
+      go : (t : Bool) → under p r.0 ≡ t → without p rs ≡ drop (led_under p rs) rs → cond (not t) (r ∷ without p rs) (without p rs) ≡ drop (cond t (suc (led_under p rs)) 0) (r ∷ rs)
+      go true e more = more
+      go false e more = ap (λ xs. r ∷ xs) (all_stay rs (off e))
+
+    -- the rows in front, and those behind what is under p
+    abbrev left : ℕ → List (Names × V) → List (Names × V)
+    left k rs = take k rs ++ drop (led_under p (drop k rs)) (drop k rs)
+
+    parted : (rs : List (Names × V)) → ascending rs ≡ true → without p rs ≡ left (lead p rs) rs
+    parted [] up = refl
+    parted (r ∷ rs) up = go (before r.0 p) refl (parted rs (tail-ascends r rs up)) where
+      clear : before r.0 p ≡ true → under p r.0 ≡ false
+      clear e = false_from_ne_true (under p r.0) (λ u. true≢false (sym e ∙ under_late p r.0 u))
+
+      go : (t : Bool) → before r.0 p ≡ t → without p rs ≡ left (lead p rs) rs → without p (r ∷ rs) ≡ left (cond t (suc (lead p rs)) 0) (r ∷ rs)
+      go true e more = cond-true (not (under p r.0)) (r ∷ without p rs) (without p rs) (ap not (clear e)) ∙ ap (λ xs. r ∷ xs) more
+      go false e more = behind-led (r ∷ rs) up e
+
+    pub apart : (rs : List (Row V)) → ascending (rows_of rs) ≡ true → (start : ℕ) → start ≡ lead p (rows_of rs) → (count : ℕ) → count ≡ led_under p (rows_of (drop start rs)) → without p (rows_of rs) ≡ rows_of (take start rs ++ drop (start + count) rs)
+    apart rs up start e count n =
+        parted (rows_of rs) up ∙ ap (λ k. left k (rows_of rs)) (sym e)
+        ∙ ap (λ k. take start (rows_of rs) ++ drop k (drop start (rows_of rs))) (ap (led_under p) (drop-map row_of start rs) ∙ sym n)
+        ∙ ap (λ ys. take start (rows_of rs) ++ ys) (drop-drop count start (rows_of rs))
+        ∙ simp (map-append, take-map, drop-map)

@@ -1,13 +1,12 @@
 -- The rows of a table, when it is edited. Assumes nothing.
-use Rattle.std.proofs.Common.{◌≡◌, ℕ, ◌+◌, ◌-◌, ◌≤◌, Bool, true, false, cond, not, List, [], ◌∷◌, ◌++◌, length, take, drop, set, filter, slice_range, Decides, Result, Ok, Err, ◌↔◌, sym, refl, ap, ◌∙◌, arith, rules}
+use Rattle.std.proofs.Common.{◌≡◌, ℕ, ◌+◌, ◌-◌, ◌≤◌, Bool, true, List, ◌++◌, length, take, drop, set, slice_range, Decides, Result, Ok, Err, sym, refl, ap, ◌∙◌, arith, rules}
 use mathlib.Core.List.{map-append}
-use Rattle.std.proofs.lemmas.List.{same_lists, places, map-set, length-map, length-set, length-append, length-take, length-drop, take-map, drop-map}
+use Rattle.std.proofs.lemmas.List.{same_lists, places, map-set, length-map, length-set, length-append, length-take, length-drop, take-map, drop-map, take-append-drop}
 use Rattle.std.proofs.lemmas.Bool.{true≢false}
 use Rattle.std.proofs.lemmas.Bool.Decides.{same_from_decides}
-use Rattle.std.specs.Result.{is_err, IsOk, OnOk}
+use Rattle.std.specs.Result.{IsOk, OnOk}
 use Rattle.std.specs.List.{refill}
-use Rattle.std.specs.List.Retain.{RetainsInTurn}
-use Rattle.arrayvec.proofs.ArrayVecLemmas.{items-with_items, filter-from_retain}
+use Rattle.arrayvec.proofs.ArrayVecLemmas.{items-with_items}
 use Rattle.paths.specs.declared.Path.{Path}
 use Rattle.paths.specs.Names.{Under}
 use Rattle.paths.specs.Paths.{names}
@@ -19,8 +18,8 @@ use Rattle.rows.specs.Tables.{spliced, Spliced}
 use Rattle.rows.proofs.Leads.{set_lead}
 use Rattle.rows.proofs.Changed.{under-says}
 
--- the last elements at their place among the first
-moved_in : {R : Type 0} (xs new all : List R) (at : ℕ) → all ≡ xs ++ new → at ≤ length xs → take at all ++ (drop (length all - length new) all ++ slice_range all at (length all - length new)) ≡ take at xs ++ (new ++ drop at xs)
+-- new elements at their place, those from there on behind them
+moved_in : {R : Type 0} (xs new all : List R) (at : ℕ) → all ≡ xs ++ new → at ≤ length xs → take at all ++ (new ++ slice_range all at (length all - length new)) ≡ take at xs ++ (new ++ drop at xs)
 moved_in xs new all at is le = rw is (same_lists _ _ (search (rules, places)) (λ k d h. grind (arith, places)))
 
 -- what a test of prefixes answers
@@ -32,12 +31,12 @@ written : {R : Type 0} (xs ys zs : List R) → ys ≡ zs → length zs ≡ lengt
 written xs ys zs e n = ap (refill (length xs) xs) e ∙ items-with_items (record { items = xs }) zs n
 
 -- a call that is no `Err`
-pub went_well : {T E P Q : Type 0} (r : Result T E) → is_err r ≡ false → IsOk r ↔ Q → OnOk r P → P × Q
-went_well (Ok x) h iff p = (p, iff.0 refl)
-went_well (Err e) h iff p = absurd (true≢false h)
+pub went_well : {T E P : Type 0} (r : Result T E) → IsOk r → OnOk r P → P
+went_well (Ok x) h p = p
+went_well (Err e) h p = absurd (true≢false (sym h))
 
 module _ {V : Type 0} where
-  same_length : (rs xs : List (Row V)) → rows_of rs ≡ rows_of xs → length rs ≡ length xs
+  pub same_length : (rs xs : List (Row V)) → rows_of rs ≡ rows_of xs → length rs ≡ length xs
   same_length rs xs e = sym (length-map rs row_of) ∙ ap length e ∙ length-map xs row_of
 
   -- the rows that were asked stand for those of the table
@@ -71,7 +70,7 @@ module _ {V : Type 0} where
         ap rows_of set_in ∙ map-set row_of xs i one ∙ ap (λ k. set (rows_of xs) k (names p, v)) here.value ∙ set_lead (rows_of xs) up (names p) v here.there
 
   -- the new rows are appended, and then moved to their place among the rows that were asked
-  module _ (rs xs new all shown moved : List (Row V)) (at : ℕ) (asked : rows_of rs ≡ rows_of xs) (found : Spliced rs new at) (is : all ≡ xs ++ new) (same : shown ≡ all) (to : moved ≡ take at shown ++ (drop (length shown - length new) shown ++ slice_range shown at (length shown - length new))) where
+  module _ (rs xs new all shown moved : List (Row V)) (at : ℕ) (asked : rows_of rs ≡ rows_of xs) (found : Spliced rs new at) (is : all ≡ xs ++ new) (same : shown ≡ all) (to : moved ≡ take at shown ++ (new ++ slice_range shown at (length shown - length new))) where
     place : Spliced xs new at
     place = spliced_in rs xs new asked at found
 
@@ -87,15 +86,22 @@ module _ {V : Type 0} where
     pub rises-inserted : ascending (rows_of (refill (length all) all moved)) ≡ true
     rises-inserted = ap ascending listed_inserted ∙ place.rises
 
-  -- the rows that do not lie under a path
-  abbrev is_apart : Names → Row V → Bool
-  is_apart p r = not (under p (names r.path))
+  parts : (start end : ℕ) (rs : List (Row V)) → rows_of (take start rs ++ drop end rs) ≡ take start (rows_of rs) ++ drop end (rows_of rs)
+  parts start end rs = simp (map-append, take-map, drop-map)
 
-  pub listed_apart : {F : Type 0} (p : Names) (R : F → Row V → Bool → F → Row V → Type 0) (f : F) (xs ys : List (Row V)) → RetainsInTurn R f xs ys → ((x : Row V) (b : Bool) (f' : F) (y : Row V) → R f x b f' y → (b ≡ is_apart p x) × (f' ≡ f) × (y ≡ x)) → rows_of ys ≡ without p (rows_of xs)
-  listed_apart p R f xs ys turns says = ap rows_of (filter-from_retain R (is_apart p) f says xs ys turns) ∙ each xs where
-    each : (xs : List (Row V)) → rows_of (filter (is_apart p) xs) ≡ without p (rows_of xs)
-    each [] = refl
-    each (r ∷ xs) = go (is_apart p r) (each xs) where
-      go : (t : Bool) → rows_of (filter (is_apart p) xs) ≡ without p (rows_of xs) → rows_of (cond t (r ∷ filter (is_apart p) xs) (filter (is_apart p) xs)) ≡ cond t (row_of r ∷ without p (rows_of xs)) (without p (rows_of xs))
-      go true e = ap (λ ys. row_of r ∷ ys) e
-      go false e = e
+  -- no row is under a path
+  pub nothing_out : (rs xs : List (Row V)) (p : Names) (start end : ℕ) → rows_of rs ≡ rows_of xs → without p (rows_of rs) ≡ rows_of (take start rs ++ drop end rs) → start ≡ end → rows_of xs ≡ without p (rows_of xs)
+  nothing_out rs xs p start end asked is e =
+      sym asked ∙ ap rows_of (sym (take-append-drop start rs) ∙ ap (λ k. take start rs ++ drop k rs) e) ∙ sym is ∙ ap (without p) asked
+
+  -- the rows under a path are taken out: those behind are moved to their place, and the last are cut off
+  module _ (rs xs shown moved kept : List (Row V)) (p : Names) (start end left : ℕ) (asked : rows_of rs ≡ rows_of xs) (is : without p (rows_of rs) ≡ rows_of (take start rs ++ drop end rs)) (same : shown ≡ xs) (long : length moved ≡ length shown) (front : take (length shown - (end - start)) moved ≡ take start shown ++ drop end shown) (less : left ≡ length xs - (end - start)) (cut : kept ≡ take left (refill (length xs) xs moved)) where
+    out : kept ≡ take start xs ++ drop end xs
+    out =
+        cut ∙ ap (take left) (written xs moved moved refl (long ∙ ap length same))
+        ∙ ap (λ k. take k moved) (less ∙ ap (λ ys. length ys - (end - start)) (sym same))
+        ∙ front ∙ ap (λ ys. take start ys ++ drop end ys) same
+
+    pub listed_out : rows_of kept ≡ without p (rows_of xs)
+    listed_out =
+        ap rows_of out ∙ parts start end xs ∙ ap (λ ys. take start ys ++ drop end ys) (sym asked) ∙ sym (parts start end rs) ∙ sym is ∙ ap (without p) asked

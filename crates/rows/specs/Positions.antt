@@ -7,7 +7,7 @@ use Rattle.paths.specs.Paths.{names}
 use Rattle.rows.specs.declared.position.Position.{Position}
 use Rattle.rows.specs.declared.row.Row.{Row}
 use Rattle.std.specs.Option.{option_map}
-use Rattle.rows.specs.Maps.{Names, before, has}
+use Rattle.rows.specs.Maps.{Names, before, under, has}
 use Rattle.rows.specs.Rows.{rows_of}
 
 -- no name lies between a name and the same name with a zero byte behind it
@@ -26,6 +26,11 @@ module _ {V : Type 0} where
   abbrev pub lead : Names → List (Names × V) → ℕ
   lead p [] = 0
   lead p (r ∷ rs) = cond (before r.0 p) (suc (lead p rs)) 0
+
+  -- how many rows at the front are at a path or below it
+  abbrev pub led_under : Names → List (Names × V) → ℕ
+  led_under p [] = 0
+  led_under p (r ∷ rs) = cond (under p r.0) (suc (led_under p rs)) 0
 
   -- the row at p is the one of that index
   pub record Here (rs : List (Row V)) (p : Names) (i : ℕ) : Type 0 where

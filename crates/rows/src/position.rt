@@ -30,7 +30,8 @@ impl<'a, 'b> Position<'a, 'b> {
         }
     }
 
-    // Whether a path comes before this position.
+    // Whether a path comes before this position. Inlined: each search asks this of every row that it tries.
+    #[inline(always)]
     pub(crate) fn follows(self, path: &Path) -> bool
         ensures { result ≡ before (names path.now) (place_of self.entry) }
     {

@@ -9,14 +9,27 @@ ghost use Rattle.rows.specs.Tables.{listed, spliced, splices};
 use crate::row::Row;
 use crate::table::Table;
 use paths::Path;
+use std::ops::Range;
 
-// Moves the last `count` elements to `at`, and those from there on up. Apart from `insert`, since the check gives the part
-// of a slice no name there.
-fn last_to<T>(items: &mut [T], at: usize, count: usize)
-    requires { at + count ≤ length items.old }
-    ensures { items.new ≡ take at items.old ++ (drop (length items.old - count) items.old ++ slice_range items.old at (length items.old - count)) }
+// Puts elements in front of the one at a place: as many of the last make room for them, and those between move back, once.
+// Apart from `insert`, since the check gives the part of a slice no name there.
+fn put_before<T: Copy>(items: &mut [T], at: usize, new: &[T])
+    requires { at + length new.now ≤ length items.old }
+    ensures { items.new ≡ take at items.old ++ (new.now ++ slice_range items.old at (length items.old - length new.now)) }
 {
-    items[at..].rotate_right(count);
+    let end = at + new.len();
+    items.copy_within(at..items.len() - new.len(), end);
+    items[at..end].copy_from_slice(new);
+}
+
+// Moves what stands from `end` on to `start`, once.
+fn close<T: Copy>(items: &mut [T], start: usize, end: usize)
+    requires order { start ≤ end }
+    requires within { end ≤ length items.old }
+    ensures long { length items.new ≡ length items.old }
+    ensures front { take (length items.old - (end - start)) items.new ≡ take start items.old ++ drop end items.old }
+{
+    items.copy_within(end..items.len(), start);
 }
 
 impl<V: Copy, const N: usize> Table<V, N> {
@@ -40,13 +53,14 @@ impl<V: Copy, const N: usize> Table<V, N> {
         ensures rows { listed self.new ≡ (if result then spliced (rows_of new.now) (listed self.old) else listed self.old) }
         ensures same { result ≡ false → self.new ≡ self.old }
     {
+        if self.rows.remaining_capacity() < new.len() {
+            return false;
+        }
         let Some(at) = self.sorted().splice_place(new) else {
             return false;
         };
-        if self.rows.try_extend_from_slice(new).is_err() {
-            return false;
-        }
-        last_to(self.rows.as_mut_slice(), at, new.len());
+        let _ = self.rows.try_extend_from_slice(new);
+        put_before(self.rows.as_mut_slice(), at, new);
         true
     }
 
@@ -59,10 +73,16 @@ impl<V: Copy, const N: usize> Table<V, N> {
         self.replace(path, value) || self.insert(&[Row { path: *path, value }])
     }
 
-    // Takes out the row at a path and those below it.
+    // Takes out the row at a path and those below it, which stand next to each other: those behind move up, once.
     pub fn remove_under(&mut self, path: &Path)
         ensures { listed self.new ≡ without (names path.now) (listed self.old) }
     {
-        self.rows.retain(|row| !path.is_prefix_of(&row.path));
+        let Range { start, end } = self.sorted().under(path);
+        if start == end {
+            return;
+        }
+        let left = self.rows.len() - (end - start);
+        close(self.rows.as_mut_slice(), start, end);
+        self.rows.truncate(left);
     }
 }
