@@ -39,12 +39,29 @@ pub fn barred<S: Store>(store: &S, path: &Path) -> bool
         .any(|up| store.entry(&up).is_some_and(|e| e.is_file()))
 }
 
+// Both of these at once. Each prefix is asked for once: an entry that a session lacks is asked for in each tree below it, and why it
+// is lost is told there too, so a second walk would count twice at every height of a pile.
+fn way<S: Store>(store: &S, path: &Path) -> (usize, bool)
+    ensures present { result.0 ≡ present_of (S.Store.stored store.now).rows (names path.now) }
+    ensures barred { result.1 ≡ barred_of (S.Store.stored store.now).rows (prefixes (names path.now)) }
+{
+    let mut place = 0;
+    let mut barred = false;
+    for up in path.prefixes() {
+        if let Some(entry) = store.entry(&up) {
+            place += 1;
+            barred = barred || entry.is_file();
+        }
+    }
+    (place, barred)
+}
+
 // Why nothing is told of a path.
 pub fn lost<S: Store>(store: &S, path: &Path) -> Fault
     ensures { result ≡ lost_of (S.Store.stored store.now).rows (names path.now) }
 {
-    let place = present(store, path);
-    if barred(store, path) {
+    let (place, barred) = way(store, path);
+    if barred {
         Fault::NotDirectory(place)
     } else {
         Fault::Missing(place)
