@@ -7,7 +7,7 @@ ghost use Rattle.base.specs.Loads.{Refused};
 
 use crate::Manifest;
 use manifests::fault::ManifestFault;
-use manifests::reader::Reader;
+use manifests::index::is_index;
 use paths::Path;
 use rows::row::Row;
 use rows::sorted::Sorted;
@@ -26,8 +26,7 @@ const OTHER_ROWS: ManifestFault = ManifestFault {
 fn check_rows<'a>(text: &[u8], rows: &'a [Row<Entry>]) -> Result<Sorted<'a, Entry>, ManifestFault>
     ensures { MatchResult result (λ s. (indexed (length rows.now) text.now ≡ Ok (rows_of rows.now)) × (kept s ≡ rows_of rows.now)) (λ f. Refused (rows_of rows.now) (indexed (length rows.now) text.now) f) }
 {
-    let reader = Reader::read(text, rows.len())?;
-    if reader.rows() != rows {
+    if !is_index(text, rows)? {
         return Err(OTHER_ROWS);
     }
     Sorted::new(rows).ok_or(OTHER_ROWS)

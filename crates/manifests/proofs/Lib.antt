@@ -8,3 +8,4 @@ pub mod BuiltRows
 pub mod ReadLines
 pub mod Limits
 pub mod Readers
+pub mod SameRows

@@ -1,6 +1,8 @@
 // The index of a manifest: one row an entry.
-ghost use Rattle.std.specs.Prelude.{◌≡◌, []};
-ghost use Rattle.rows.specs.Rows.{row_of};
+ghost use Rattle.std.specs.Prelude.{◌≡◌, List, [], length, Ok, Err, Decides, MatchResult};
+ghost use Rattle.rows.specs.Rows.{row_of, rows_of};
+ghost use Rattle.trees.specs.Entries.{Row as Meant};
+ghost use Rattle.manifests.specs.Manifests.{indexed};
 ghost use Rattle.trees.specs.declared.entry.Entry.TheVariants.{Dir};
 ghost use Rattle.manifests.specs.Indexes.{Indexed};
 
@@ -24,8 +26,18 @@ pub fn blank_row() -> Row<Entry>
 pub fn index(text: &[u8], rows: &mut [Row<Entry>]) -> Result<usize, ManifestFault>
     ensures { Indexed text.now rows.old rows.new result }
 {
-    let reader = Reader::read(text, rows.len())?;
+    let mut reader = Reader::new(rows.len());
+    reader.fill(text)?;
     let read = reader.rows();
     rows[..read.len()].copy_from_slice(read);
     Ok(read.len())
+}
+
+// Whether rows are exactly those of a text, which may have as many.
+pub fn is_index(text: &[u8], rows: &[Row<Entry>]) -> Result<bool, ManifestFault>
+    ensures { MatchResult result (λ same. (read : List Meant) × (indexed (length rows.now) text.now ≡ Ok read) × Decides same (rows_of rows.now ≡ read)) (λ f. indexed (length rows.now) text.now ≡ Err f) }
+{
+    let mut read = Reader::new(rows.len());
+    read.fill(text)?;
+    Ok(read.rows() == rows)
 }

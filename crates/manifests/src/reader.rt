@@ -4,7 +4,7 @@ ghost use Rattle.paths.specs.Names.{begins};
 ghost use Rattle.rows.specs.Rows.{row_of, rows_of};
 ghost use Rattle.trees.specs.Entries.{Row as Meant, is_tree};
 ghost use Rattle.listing.specs.Lines.{header};
-ghost use Rattle.manifests.specs.Manifests.{indexed};
+ghost use Rattle.manifests.specs.Manifests.{indexed, rows_in};
 
 use crate::fault::ManifestFault;
 use crate::index::blank_row;
@@ -44,7 +44,7 @@ impl Reader {
     ghost use Rattle.manifests.specs.Readers.{so_far, row_of_ended};
 
     // A reader without rows, which takes at most `given`.
-    fn new(given: usize) -> Reader
+    pub(crate) fn new(given: usize) -> Reader
         ensures rows { so_far result ≡ [] }
         ensures limit { result.limit ≡ min given 1024 }
     {
@@ -74,10 +74,12 @@ impl Reader {
         Ok(())
     }
 
-    // The rows of a text; no more than `given`, and never more than 1,024.
-    pub fn read(text: &[u8], given: usize) -> Result<Reader, ManifestFault>
-        ensures rows { MatchResult result (λ r. indexed given text.now ≡ Ok (so_far r)) (λ f. indexed given text.now ≡ Err f) }
-        ensures limit { IfOk result (λ r. r.limit ≡ min given 1024) }
+    // Takes the rows of a text, where it has none yet; a refusal leaves those of the lines in front. Apart from `read`, since a
+    // reader is large, and one that is handed on is copied with all its places: who needs it only for a while fills it where it is.
+    pub(crate) fn fill(&mut self, text: &[u8]) -> Result<(), ManifestFault>
+        requires { so_far self.old ≡ [] }
+        ensures rows { MatchResult result (λ _. rows_in self.old.limit text.now ≡ Ok (so_far self.new)) (λ f. rows_in self.old.limit text.now ≡ Err f) }
+        ensures limit { self.new.limit ≡ self.old.limit }
     {
         if !is_header(text) {
             return Err(ManifestFault {
@@ -85,15 +87,23 @@ impl Reader {
                 cause: Cause::Header,
             });
         }
-        let mut reader = Reader::new(given);
         // `at` is a sum of lengths, no index that is counted.
         let mut at = HEADER.len();
         for line in text[at..].split_inclusive(|byte| *byte == b'\n') {
-            reader
-                .read_line(line)
+            self.read_line(line)
                 .map_err(|cause| ManifestFault { at, cause })?;
             at += line.len();
         }
+        Ok(())
+    }
+
+    // The rows of a text; no more than `given`, and never more than 1,024.
+    pub fn read(text: &[u8], given: usize) -> Result<Reader, ManifestFault>
+        ensures rows { MatchResult result (λ r. indexed given text.now ≡ Ok (so_far r)) (λ f. indexed given text.now ≡ Err f) }
+        ensures limit { IfOk result (λ r. r.limit ≡ min given 1024) }
+    {
+        let mut reader = Reader::new(given);
+        reader.fill(text)?;
         Ok(reader)
     }
 }

@@ -1,5 +1,5 @@
-use Rattle.std.proofs.Common.{◌≡◌, List, length, true, false, not, Some, None, Ok, Option, Result, sym, refl, ap, ◌∙◌, MatchOption, MatchResult}
-use Rattle.std.proofs.lemmas.Bool.{both_ways, false≢true}
+use Rattle.std.proofs.Common.{◌≡◌, List, length, true, false, Some, None, Ok, Option, Result, sym, ap, ◌∙◌, MatchOption, MatchResult}
+use Rattle.std.proofs.lemmas.Bool.{both_ways}
 use Rattle.std.specs.Option.{ok_or}
 use Rattle.rows.specs.declared.row.Row.{Row as Stored}
 use Rattle.manifests.specs.declared.fault.ManifestFault.{ManifestFault}
@@ -14,14 +14,7 @@ use Rattle.words.specs.declared.fault.Cause.TheVariants.{OtherRows}
 use Rattle.manifests.specs.Manifests.{indexed, fault_at}
 use Rattle.manifests.proofs.BuiltRows.{indexed-built}
 use Rattle.base.specs.Loads.{Refused}
-use Rattle.base.proofs.SameRows.{rows_ne}
 use Rattle.base.proofs.loading.check_rows.Goals as goal
-
-pub returns-then-ne : goal.returns-then-ne
-returns-then-ne c =
-    let same = rows_ne c.rows.result.now c.args.rows.now c.ne.result c.ne.ensures in
-    let said = c.in_ok-reader.ensures.rows ∙ ap Ok (sym c.rows.ensures.rows) in
-    rw said (refl, λ e. false≢true (ap not (sym c.if-ne.true) ∙ same.1 e))
 
 -- rows that are those of the text do rise, so that they are taken
 taken : (rows : List (Stored Entry)) (o : Option (Sorted Entry)) (f : ManifestFault) (said : Result (List Row) ManifestFault) → said ≡ Ok (rows_of rows) → ascending (rows_of rows) ≡ true → MatchOption o (ascending (rows_of rows) ≡ false) (λ s. (ascending (rows_of rows) ≡ true) × (s.rows.now ≡ rows)) → MatchResult (ok_or o f) (λ s. (said ≡ Ok (rows_of rows)) × (kept s ≡ rows_of rows)) (λ g. Refused (rows_of rows) said g)
@@ -31,7 +24,7 @@ taken rows (Some s) f said is a h = (is, ap rows_of h.1)
 pub returns : goal.returns
 returns c =
     let given = c.args.rows.now in
-    let same = rows_ne c.rows.result.now given c.ne.result c.ne.ensures in
-    let said = c.in_ok-reader.ensures.rows ∙ ap Ok (sym c.rows.ensures.rows ∙ same.0 (ap not c.if-ne.false)) in
+    let read = c.in_ok-is_index.ensures in
+    let said : indexed (length given) c.args.text.now ≡ Ok (rows_of given) = read.1 ∙ ap Ok (sym (read.2.0 c.if-not-branch.false)) in
     let built = indexed-built (length given) c.args.text.now (rows_of given) said in
     rw c.ok_or.ensures.value (taken given c.new.result (fault_at 0 OtherRows) (indexed (length given) c.args.text.now) said (tree_parts (rows_of given) built).0 c.new.ensures)

@@ -1,4 +1,4 @@
-use Rattle.std.proofs.Common.{◌≡◌, min, refl, ◌+◌, ◌∙◌, eqb, MatchResult, IsOk, length, drop, rules, ap, sym, arith}
+use Rattle.std.proofs.Common.{◌≡◌, refl, ◌+◌, ◌∙◌, eqb, MatchResult, IsOk, length, drop, rules, ap, sym, arith}
 use Rattle.std.proofs.lemmas.Fn.{always_returns_same}
 use Rattle.std.proofs.lemmas.List.{take_rest, drop-drop, drop_at, length-drop, length-append}
 use Rattle.std.proofs.lemmas.Result.{err_from_is_err_and}
@@ -7,7 +7,7 @@ use Rattle.std.specs.Slice.Iter.{split_inclusive_rest}
 use Rattle.manifests.specs.Manifests.{fault_at}
 use Rattle.manifests.specs.Readers.{so_far}
 use Rattle.manifests.proofs.ReadLines.{line_refused, line_taken, text_begins, text_ends}
-use Rattle.manifests.proofs.reader.Reader.read.Goals as goal
+use Rattle.manifests.proofs.reader.Reader.fill.Goals as goal
 
 pub loop-line-init : goal.loop-line-init
 loop-line-init c =
@@ -15,8 +15,8 @@ loop-line-init c =
     record {
       rest = ap split_inclusive_rest c.into_iter-line-iterator.ensures.into_iter_gives ∙ c.split_inclusive-line-items.ensures.rest ∙ take_rest text 7;
       within = search rules;
-      limit = c.new-reader.ensures.limit;
-      rows = rw c.new-reader.ensures.limit (text_begins (min c.args.given 1024) text (so_far c.new-reader.result) (sym c.is_header.ensures ∙ c.if-not-is_header.false) c.new-reader.ensures.rows);
+      limit = refl;
+      rows = text_begins c.args.self.now.limit text (so_far c.args.self.now) (sym c.is_header.ensures ∙ c.if-not-is_header.false) c.requires;
     }
 
 pub returns-in_err-map_err-clause-rows : goal.returns-in_err-map_err-clause-rows
@@ -28,7 +28,7 @@ returns-in_err-map_err-clause-rows c =
     let i = b.1.0 in
     let rest = split_inclusive_rest c.loop-line.line-iterator in
     let first : IsFirstMatchOrLen (λ x. eqb x 10) rest i = (b.1.2 (λ x. eqb x 10) (always_returns_same _ _ _ (λ a r f h. search rules))).1 in
-    let stops = line_refused c.loop-line.reader.limit c.loop-line.at (so_far c.loop-line.reader) rest c.in-Some.line.now _ b.0 i b.1.1 first b.2 c.read_line.result f _ e c.read_line.ensures.rows in
+    let stops = line_refused c.loop-line.self.limit c.loop-line.at (so_far c.loop-line.self) rest c.in-Some.line.now _ b.0 i b.1.1 first b.2 c.read_line.result f _ e c.read_line.ensures.rows in
     rw (p.1, p.2) (c.loop-line.invariant.rows ∙ rw c.loop-line.invariant.rest at stops)
 
 pub loop-line-preserved : goal.loop-line-preserved
@@ -42,7 +42,7 @@ loop-line-preserved c =
     let at = c.loop-line.at in
     let first : IsFirstMatchOrLen (λ x. eqb x 10) rest i = (b.1.2 (λ x. eqb x 10) (always_returns_same _ _ _ (λ a r f h. search rules))).1 in
     let ok : IsOk c.read_line.result = search rules in
-    let turns = line_taken c.loop-line.reader.limit at (so_far c.loop-line.reader) rest x more b.0 i b.1.1 first b.2 c.read_line.result (so_far c.read_line.new.self) _ ok c.read_line.ensures.rows in
+    let turns = line_taken c.loop-line.self.limit at (so_far c.loop-line.self) rest x more b.0 i b.1.1 first b.2 c.read_line.result (so_far c.read_line.new.self) _ ok c.read_line.ensures.rows in
     let is = c.loop-line.invariant.rest in
     let more_is : more ≡ drop (at + length x) text = sym (drop_at x more (length x) refl) ∙ ap (drop (length x)) (sym b.0 ∙ is) ∙ drop-drop (length x) at text in
     record {
@@ -54,5 +54,5 @@ loop-line-preserved c =
 
 pub returns-clause-rows : goal.returns-clause-rows
 returns-clause-rows c =
-    let ends = text_ends c.loop-line.reader.limit c.loop-line.at (so_far c.loop-line.reader) (split_inclusive_rest c.loop-line.line-iterator) c.in-None.ensures.steps.0 in
+    let ends = text_ends c.loop-line.self.limit c.loop-line.at (so_far c.loop-line.self) (split_inclusive_rest c.loop-line.line-iterator) c.in-None.ensures.steps.0 in
     c.loop-line.invariant.rows ∙ rw c.loop-line.invariant.rest at ends
