@@ -1,4 +1,5 @@
-// The lines that refusals print: every fault of a tree, and every cause of a manifest's.
+// The lines that refusals print: every fault of a tree, and every cause of a manifest's and of a layer file's.
+use layer_fields::fault::{Cause as LayerCause, LayerFault};
 use manifests::fault::ManifestFault;
 use paths::PathFault;
 use reports::refusal::{Reason, refusal};
@@ -35,6 +36,20 @@ const MANIFESTS: [(usize, Cause); 9] = [
     (0, Cause::OtherRows),
 ];
 
+const LAYERS: [(usize, LayerCause); 11] = [
+    (0, LayerCause::Field),
+    (0, LayerCause::Version),
+    (13, LayerCause::Whiteout),
+    (13, LayerCause::Path(PathFault::TooLong)),
+    (13, LayerCause::Path(PathFault::BadName(1))),
+    (13, LayerCause::Path(PathFault::TooDeep)),
+    (29, LayerCause::Order),
+    (29, LayerCause::Parent),
+    (29, LayerCause::Value),
+    (8000, LayerCause::TooMany),
+    (65535, LayerCause::Count),
+];
+
 fn print_refusal(rt: &HostRuntime, subject: &str, reason: Reason) -> io::Result<()> {
     rt.print(refusal(rt.alloc(), subject, reason)?.as_str())
 }
@@ -46,6 +61,15 @@ pub(crate) fn print_faults(rt: &HostRuntime) -> io::Result<()> {
     for (at, cause) in MANIFESTS {
         let fault = ManifestFault { at, cause };
         print_refusal(rt, "base.mtree", Reason::Manifest(fault))?;
+    }
+    Ok(())
+}
+
+// Of layer files. Apart from `print_faults`, so that a line `faults` prints what it always did.
+pub(crate) fn print_layer_faults(rt: &HostRuntime) -> io::Result<()> {
+    for (at, cause) in LAYERS {
+        let fault = LayerFault { at, cause };
+        print_refusal(rt, "top.lay", Reason::Layer(fault))?;
     }
     Ok(())
 }

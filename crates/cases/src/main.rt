@@ -10,7 +10,7 @@ mod outcomes;
 mod spelling;
 
 use asking::{Question, ask_base};
-use faults::print_faults;
+use faults::{print_faults, print_layer_faults};
 use indexing::{print_index, print_load};
 use outcomes::{print_outcome, print_report};
 use reports::report::report_pile;
@@ -42,6 +42,7 @@ fn run_line(rt: &HostRuntime, base: &mut Vec<u8>, line: &str) -> io::Result<()> 
         "next" => ask_base(rt, base.as_slice(), number, Question::Next(first, second)),
         "list" => ask_base(rt, base.as_slice(), number, Question::List),
         "faults" => print_faults(rt),
+        "layer_faults" => print_layer_faults(rt),
         _ => Ok(()),
     }
 }
