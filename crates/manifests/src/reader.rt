@@ -43,7 +43,8 @@ pub struct Reader {
 impl Reader {
     ghost use Rattle.manifests.specs.Readers.{so_far, row_of_ended};
 
-    // A reader without rows, which takes at most `given`.
+    // A reader without rows, which takes at most `given`. Inlined, so that it is made where it is filled.
+    #[inline(always)]
     pub(crate) fn new(given: usize) -> Reader
         ensures rows { so_far result ≡ [] }
         ensures limit { result.limit ≡ min given 1024 }
